@@ -1,0 +1,2 @@
+//! Lists read as bags, and lists in order: definitions.
+#![tactic(auto)]

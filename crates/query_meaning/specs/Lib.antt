@@ -1,0 +1,4 @@
+pub mod Mapping
+pub mod Leaf
+pub mod Answer
+pub mod AnswerText

@@ -1,0 +1,6 @@
+//! Cells, schemas, tables, and how they are written: definitions.
+#![tactic(auto)]
+
+mod kind;
+
+pub use kind::Kind;

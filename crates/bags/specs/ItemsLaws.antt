@@ -3,12 +3,12 @@ use Rattle.std.specs.Prelude.{◌≡◌, ◌⊎◌, Bool, true, false, List, [],
 use Rattle.std.proofs.Common.{sym, ap, ap₂, ◌∙◌, inl, inr}
 use Rattle.std.proofs.lemmas.Bool.{and_parts}
 use Rattle.std.specs.Cmp.{IsTotalOrder}
+use Rattle.std.proofs.lemmas.Map.Lookups.{CmpEqualImpliesEq}
 use Rattle.std.proofs.lemmas.Cmp.{alike_right}
 use Rattle.std.specs.declared.cmp.Ordering.{Ordering}
 use Rattle.std.specs.declared.cmp.Ordering.TheVariants.{Less, Equal, Greater}
 use Rattle.std.specs.Ordering.{ordering_then, ordering_reverse}
 use Rattle.bags.specs.Sort.{turned, first_flag, rest_flags, by_items, same_items}
-use Rattle.bags.specs.SortLaws.{TiesAreEqual}
 
 less_cases : (a b : Ordering) → ordering_then a b ≡ Less → (a ≡ Less) ⊎ ((a ≡ Equal) × (b ≡ Less))
 less_cases Less b e = inl refl
@@ -50,7 +50,7 @@ turned_total {X} {cmp} o true = record {
   congr = λ x y z a. ap ordering_reverse (o.congr x y z (equal_reversed (cmp x y) a));
 }
 
-pub turned_ties : {X : Type 0} {cmp : X → X → Ordering} → TiesAreEqual cmp → (down : Bool) → TiesAreEqual (λ x y. turned down (cmp x y))
+pub turned_ties : {X : Type 0} {cmp : X → X → Ordering} → CmpEqualImpliesEq cmp → (down : Bool) → CmpEqualImpliesEq (λ x y. turned down (cmp x y))
 turned_ties t false x y e = t x y e
 turned_ties {X} {cmp} t true x y e = t x y (equal_reversed (cmp x y) e)
 
@@ -102,7 +102,7 @@ pub items_total : {X : Type 0} (cmp : X → X → Ordering) → IsTotalOrder cmp
 items_total cmp o downs = record { antisymm = items_antisymm o downs; trans = items_trans o downs; congr = items_congr o downs }
 
 -- lists that tie are equal where items that tie are
-pub items_ties : {X : Type 0} (cmp : X → X → Ordering) → TiesAreEqual cmp → (downs : List Bool) → TiesAreEqual (by_items cmp downs)
+pub items_ties : {X : Type 0} (cmp : X → X → Ordering) → CmpEqualImpliesEq cmp → (downs : List Bool) → CmpEqualImpliesEq (by_items cmp downs)
 items_ties cmp t downs [] [] e = refl
 items_ties cmp t downs [] (y ∷ ys) e = cc
 items_ties cmp t downs (x ∷ xs) [] e = cc

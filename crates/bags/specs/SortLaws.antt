@@ -5,6 +5,7 @@ use Rattle.std.proofs.lemmas.Bool.{cases_Bool}
 use Rattle.std.specs.List.{list_any, AllByRecursion}
 use Rattle.std.specs.List.Sorted.{IsPermutation, IsSorted}
 use Rattle.std.specs.Cmp.{IsTotalOrder}
+use Rattle.std.proofs.lemmas.Map.Lookups.{CmpEqualImpliesEq}
 use Rattle.std.proofs.lemmas.Cmp.{upto, tied_itself}
 use Rattle.std.specs.declared.cmp.Ordering.{Ordering}
 use Rattle.std.specs.declared.cmp.Ordering.TheVariants.{Less, Equal, Greater}
@@ -13,10 +14,6 @@ use Rattle.bags.specs.Bag.{total, SameBag}
 use Rattle.bags.specs.BagLaws.{same-sym, same-trans, each-weaker}
 use Rattle.bags.specs.PermutationLaws.{same-permutation}
 use Rattle.bags.specs.Sort.{insert_sorted, sort, firsts}
-
--- ties are one item
-abbrev pub TiesAreEqual : {X : Type 0} → (X → X → Ordering) → Type 0
-TiesAreEqual {X} cmp = (x y : X) → cmp x y ≡ Equal → x ≡ y
 
 -- each item is at most those after it
 abbrev pub IsRising : {X : Type 0} → (X → X → Ordering) → List X → Type 0
@@ -139,7 +136,7 @@ first-below {X} {cmp} o x y xs ys all s = go (cases_Bool (is_le (cmp y x)))
     go (inl e) = e
     go (inr e) = let h : 1 + total (above cmp y) xs ≡ 0 = rw e at none in absurd (omega arith)
 
-pub rising-same : {X : Type 0} {cmp : X → X → Ordering} → IsTotalOrder cmp → TiesAreEqual cmp → (xs ys : List X) → IsRising cmp xs → IsRising cmp ys → SameBag xs ys → xs ≡ ys
+pub rising-same : {X : Type 0} {cmp : X → X → Ordering} → IsTotalOrder cmp → CmpEqualImpliesEq cmp → (xs ys : List X) → IsRising cmp xs → IsRising cmp ys → SameBag xs ys → xs ≡ ys
 rising-same o t [] [] r q s = refl
 rising-same o t [] (y ∷ ys) r q s = absurd (let e : 0 ≡ 1 + total (λ y. 1) ys = s.totals (λ y. 1) in omega arith)
 rising-same o t (x ∷ xs) [] r q s = absurd (let e : 1 + total (λ y. 1) xs ≡ 0 = s.totals (λ y. 1) in omega arith)
@@ -153,7 +150,7 @@ rising-same {X} {cmp} o t (x ∷ xs) (y ∷ ys) r q s =
     }))
 
 -- equal bags whose ties are one item sort to one list
-pub sort-same : {X : Type 0} (cmp : X → X → Ordering) → IsTotalOrder cmp → TiesAreEqual cmp → (xs ys : List X) → SameBag xs ys → sort cmp xs ≡ sort cmp ys
+pub sort-same : {X : Type 0} (cmp : X → X → Ordering) → IsTotalOrder cmp → CmpEqualImpliesEq cmp → (xs ys : List X) → SameBag xs ys → sort cmp xs ≡ sort cmp ys
 sort-same cmp o t xs ys s = rising-same o t (sort cmp xs) (sort cmp ys) (rising-sort o xs) (rising-sort o ys)
     (same-trans (sort-bag cmp xs) (same-trans s (same-sym (sort-bag cmp ys))))
 
@@ -187,11 +184,11 @@ rising-sorted o [] s = tt
 rising-sorted o (x ∷ xs) s = rising-stepwise o x xs (stepwise-sorted o x xs s)
 
 -- a list in order, of the same bag, is the sort, where ties are one item
-pub sort-sorted_bag : {X : Type 0} (cmp : X → X → Ordering) → IsTotalOrder cmp → TiesAreEqual cmp → (xs ys : List X) → SameBag xs ys → IsSorted cmp ys → ys ≡ sort cmp xs
+pub sort-sorted_bag : {X : Type 0} (cmp : X → X → Ordering) → IsTotalOrder cmp → CmpEqualImpliesEq cmp → (xs ys : List X) → SameBag xs ys → IsSorted cmp ys → ys ≡ sort cmp xs
 sort-sorted_bag cmp o t xs ys s up = rising-same o t ys (sort cmp xs) (rising-sorted o ys up) (rising-sort o xs) (same-trans (same-sym s) (same-sym (sort-bag cmp xs)))
 
 -- what an unstable sort of the standard library ensures
-pub sort-sorted : {X : Type 0} (cmp : X → X → Ordering) → IsTotalOrder cmp → TiesAreEqual cmp → (xs ys : List X) → IsPermutation xs ys → IsSorted cmp ys → ys ≡ sort cmp xs
+pub sort-sorted : {X : Type 0} (cmp : X → X → Ordering) → IsTotalOrder cmp → CmpEqualImpliesEq cmp → (xs ys : List X) → IsPermutation xs ys → IsSorted cmp ys → ys ≡ sort cmp xs
 sort-sorted cmp o t xs ys p up = sort-sorted_bag cmp o t xs ys (same-permutation xs ys p) up
 
 -- ---- a sort moves through a map

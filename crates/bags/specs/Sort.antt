@@ -3,7 +3,7 @@ use Rattle.std.specs.Prelude.{Bool, true, false, if◌then◌else◌, ◌&&◌, 
 use Rattle.std.specs.List.{list_any}
 use Rattle.std.specs.declared.cmp.Ordering.{Ordering}
 use Rattle.std.specs.declared.cmp.Ordering.TheVariants.{Less, Equal, Greater}
-use Rattle.std.specs.Ordering.{is_le, is_eq, ordering_then, ordering_reverse}
+use Rattle.std.specs.Ordering.{is_le, ordering_then, ordering_reverse}
 
 -- x stands before the first item that it is not above
 abbrev pub insert_sorted : {X : Type 0} → (X → X → Ordering) → X → List X → List X

@@ -6,3 +6,4 @@ pub mod Values
 pub mod TermOrder
 pub mod Spelling
 pub mod TermLaws
+pub mod OrderLaws

@@ -1,5 +1,5 @@
 -- Equal terms and triples: the tests say it.
-use Rattle.std.specs.Prelude.{◌≡◌, Bool, true, false, refl, IsTrue}
+use Rattle.std.specs.Prelude.{◌≡◌, Bool, true, refl, IsTrue}
 use Rattle.std.specs.Cmp.{IsEquivalence, first_so, second_so}
 use Rattle.std.specs.Hash as fed
 use Rattle.std.specs.Bool.{Decides, one_answer}

@@ -1,0 +1,5 @@
+pub mod OrderedAnswer
+pub mod Choices
+pub mod MappingLaws
+pub mod Assignments
+pub mod OneLeaf

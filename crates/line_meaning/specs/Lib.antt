@@ -1,0 +1,6 @@
+pub mod Lines
+pub mod Reader
+pub mod Changes
+pub mod Present
+pub mod Cuts
+pub mod LineLaws

@@ -1,0 +1,32 @@
+-- What the reader answers, beside what the lines say.
+use Rattle.std.specs.Prelude.{◌≡◌, ◌+◌, ℕ, List, [], ◌∷◌, ◌++◌, Option, Some, None, Result, Ok, Err, length}
+use Rattle.line_meaning.specs.Lines.{Line, lines_from, Reading, Nothing, Adds}
+use Rattle.line_meaning.specs.Changes.{Refused}
+use Rattle.line_meaning.specs.Changes as refused
+use Rattle.nt_lines.specs.declared.refusal.LineRefusal.{LineRefusal}
+use Rattle.nt_lines.specs.declared.refusal.LineRefusal.TheVariants.{NoMemory, Bad, TooLong}
+use Rattle.nt_lines.specs.declared.line.Said.{Said}
+use Rattle.nt_lines.specs.declared.line.Said.TheVariants as said
+use Rattle.std.specs.Borrow.{Bor}
+
+-- a refusal is the defined one, unless memory ran out
+abbrev pub Refuses : {Y : Type 0} → LineRefusal → Result Y Refused → Type 0
+Refuses NoMemory read = Unit {0}
+Refuses (Bad n) read = read ≡ Err (refused.Bad n)
+Refuses (TooLong n) read = read ≡ Err (refused.TooLong n)
+
+-- what was answered, seen by view, is what is defined, unless memory ran out
+abbrev pub Gives : {X Y : Type 0} → (X → Y) → Result X LineRefusal → Result Y Refused → Type 0
+Gives view (Ok x) read = read ≡ Ok (view x)
+Gives view (Err e) read = Refuses e read
+
+-- what a line says, or that it is out of the grammar
+abbrev pub reading : Said → Option Reading
+reading said.Nothing = Some Nothing
+reading (said.Triple triple) = Some (Adds triple)
+reading said.Bad = None
+
+-- the lines after the first one, the first of which has this number or the next
+abbrev pub lines_after : ℕ → Option (Bor (List ℕ) × ℕ) → List Line
+lines_after n None = []
+lines_after n (Some x) = lines_from (n + x.1) x.0.now

@@ -1,0 +1,87 @@
+//! All lines of a text.
+
+ghost use Rattle.std.specs.Prelude.{◌≡◌, ◌∷◌, ◌<◌, ◌≤◌, ◌+◌, ◌^◌, ℕ, IfSome, length, ◌==◌, if◌then◌else◌};
+ghost use Rattle.std.specs.List.{prefix_len};
+ghost use Rattle.line_meaning.specs.Lines.{Line, lines_from, is_inner};
+ghost use Rattle.line_meaning.specs.Changes.{before, line_changes, changes_of};
+ghost use Rattle.nt_lines.specs.Refusals.{Gives, lines_after};
+
+use crate::line::{Said, read_line};
+use crate::refusal::LineRefusal;
+use line_meaning::Change;
+use std::alloc::Global;
+
+/// The most bytes that a line may have.
+const MAX_LINE: usize = 65536;
+
+// How many bytes stand before the first end of a line.
+fn line_len(bytes: &[u8]) -> usize
+    ensures { result ≡ prefix_len is_inner bytes.now }
+{
+    for (i, byte) in bytes.iter().enumerate() {
+        if *byte == b'\n' || *byte == b'\r' {
+            return i;
+        }
+    }
+    bytes.len()
+}
+
+// How much the number of lines rises at an end.
+fn rise_of(end: u8) -> u64
+    ensures { result ≡ (if end == 10 then 1 else 0) }
+{
+    if end == b'\n' { 1 } else { 0 }
+}
+
+// The first line, and where an end comes what follows it, with how much the number of lines rises.
+fn split_line(bytes: &[u8]) -> (&[u8], Option<(&[u8], u64)>)
+    ensures lines { (n : ℕ) → lines_from n bytes.now ≡ record { number = n; text = result.0.now } ∷ lines_after n result.1 }
+    ensures shorter { IfSome result.1 (λ x. length x.0.now + x.1 ≤ length bytes.now) }
+    ensures falls { IfSome result.1 (λ x. length x.0.now < length bytes.now) }
+{
+    let len = line_len(bytes);
+    if len >= bytes.len() {
+        return (bytes, None);
+    }
+    let rise = rise_of(bytes[len]);
+    (&bytes[..len], Some((&bytes[len + 1..], rise)))
+}
+
+// Adds what a line changes.
+fn add_line(
+    alloc: Global,
+    line: u64,
+    text: &[u8],
+    changes: &mut Vec<Change>,
+) -> Result<(), LineRefusal>
+    ensures { Gives (λ _. changes.new.items) result
+        (before changes.old.items (line_changes record { number = line; text = text.now })) }
+{
+    if text.len() > MAX_LINE {
+        return Err(LineRefusal::TooLong { line });
+    }
+    match read_line(alloc, text)? {
+        Said::Nothing => {}
+        Said::Triple(triple) => changes.push(Change::Add(triple))?,
+        Said::Bad => return Err(LineRefusal::Bad { line }),
+    }
+    Ok(())
+}
+
+/// The changes of all lines, or the first line that is refused.
+pub fn read_changes(alloc: Global, bytes: &[u8]) -> Result<Vec<Change>, LineRefusal>
+    ensures { Gives (λ changes. changes.items) result (changes_of bytes.now) }
+{
+    let mut changes = Vec::new(alloc);
+    let mut rest = bytes;
+    let mut line = 1;
+    'lines: loop {
+        let (text, after) = split_line(rest);
+        add_line(alloc, line, text, &mut changes)?;
+        let Some((tail, rise)) = after else {
+            return Ok(changes);
+        };
+        rest = tail;
+        line += rise;
+    }
+}

@@ -1,0 +1,8 @@
+//! Queries of one pattern that show all its variables.
+#![tactic(auto)]
+
+mod places;
+mod reader;
+
+pub use places::{PatternQuery, Place};
+pub use reader::read_pattern_query;

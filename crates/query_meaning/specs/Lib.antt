@@ -5,5 +5,8 @@ pub mod Expressions
 pub mod ExpressionLaws
 pub mod Eval
 pub mod EvalLaws
+pub mod Variables
+pub mod Matches
 pub mod Answer
 pub mod AnswerText
+pub mod VariableLaws

@@ -1,18 +1,14 @@
-//! The laws.
+//! Laws of order.
 
-ghost use Rattle.std.specs.Prelude.{◌≡◌, Option, List, [], ◌∷◌, true};
-ghost use Rattle.std.specs.List.{flat_map, IsDistinct};
+ghost use Rattle.std.specs.Prelude.{◌≡◌, Option, List};
 ghost use Rattle.std.specs.Cmp.{IsTotalOrder};
 ghost use Rattle.std.specs.declared.cmp.Ordering.TheVariants.{Equal};
 ghost use Rattle.bags.specs.Bag.{SameBag};
-ghost use Rattle.rdf_meaning.specs.Terms.{RdfTerm, RdfTriple, same_triple};
+ghost use Rattle.rdf_meaning.specs.Terms.{RdfTerm};
 ghost use Rattle.rdf_meaning.specs.TermOrder.{term_order, place_order};
 ghost use Rattle.query_meaning.specs.declared.modifiers.Key.{Key};
 ghost use Rattle.query_meaning.specs.declared.modifiers.Modifiers.{Modifiers};
-ghost use Rattle.query_meaning.specs.declared.pattern.Pattern.{Pattern};
 ghost use Rattle.query_meaning.specs.Mapping.{Mapping};
-ghost use Rattle.query_meaning.specs.Leaf.{leaf, matches};
-ghost use Rattle.query_meaning.specs.Width.{pattern_in_width};
 ghost use Rattle.query_meaning.specs.Answer.{Row, row_order, ordered_answer};
 
 /// Terms stand in a total order, and those that tie are equal.
@@ -23,7 +19,7 @@ pub fn terms_in_order()
 {}
 
 /// So do the places of a row, unbound ones before terms.
-// For keys of ORDER BY.
+// For the keys of an answer.
 pub fn places_in_order()
     ensures total { IsTotalOrder place_order }
     ensures ties { (x y : Option RdfTerm) → place_order x y ≡ Equal → x ≡ y }
@@ -40,10 +36,4 @@ pub fn rows_in_order()
 // Wherever a step of the compiler gives the solutions as a bag.
 pub fn one_order()
     ensures { (q : Modifiers) (ms ns : List Mapping) → SameBag ms ns → ordered_answer q ms ≡ ordered_answer q ns }
-{}
-
-/// Over distinct triples the solutions of one pattern are what each triple binds.
-// For the first program, which looks at one triple after another, and for each arm of a star.
-pub fn leaf_of_one()
-    ensures { (p : Pattern) (g : List RdfTriple) → IsDistinct same_triple g → pattern_in_width p ≡ true → SameBag (leaf (p ∷ []) g) (flat_map (matches p) g) }
 {}

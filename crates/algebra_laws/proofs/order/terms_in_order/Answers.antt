@@ -1,5 +1,5 @@
 use Rattle.rdf_meaning.specs.OrderLaws.{term_order_total, term_order_ties}
-use Rattle.algebra_laws.proofs.laws.terms_in_order.Goals as goal
+use Rattle.algebra_laws.proofs.order.terms_in_order.Goals as goal
 
 pub returns-clause-total : goal.returns-clause-total
 returns-clause-total c = term_order_total

@@ -1,5 +1,5 @@
 use Rattle.rdf_meaning.specs.OrderLaws.{place_order_total, place_order_ties}
-use Rattle.algebra_laws.proofs.laws.places_in_order.Goals as goal
+use Rattle.algebra_laws.proofs.order.places_in_order.Goals as goal
 
 pub returns-clause-total : goal.returns-clause-total
 returns-clause-total c = place_order_total

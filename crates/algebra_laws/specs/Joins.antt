@@ -18,7 +18,7 @@ same-join ls ls' bs bs' s t =
     same-flat_map (λ a. map (merge a) (filter (compatible a) bs)) (λ a. map (merge a) (filter (compatible a) bs')) ls ls' s
     (λ a. same-map (merge a) (filter (compatible a) bs) (filter (compatible a) bs') (same-filter (compatible a) bs bs' t))
 
-same-or_alone : (a : Mapping) (xs ys : List Mapping) → SameBag xs ys → SameBag (or_alone a xs) (or_alone a ys)
+pub same-or_alone : (a : Mapping) (xs ys : List Mapping) → SameBag xs ys → SameBag (or_alone a xs) (or_alone a ys)
 same-or_alone a [] [] s = same-refl _
 same-or_alone a [] (y ∷ ys) s = absurd (let e : 0 ≡ 1 + total (λ y. 1) ys = s.totals (λ y. 1) in omega arith)
 same-or_alone a (x ∷ xs) [] s = absurd (let e : 1 + total (λ y. 1) xs ≡ 0 = s.totals (λ y. 1) in omega arith)

@@ -132,7 +132,7 @@ or_no : (b : Bool) → b ≡ (b || false)
 or_no true = refl
 or_no false = refl
 
-bound-chosen : (ts : List RdfTerm) (p : Pattern) (t : RdfTriple) → list_any (same_term t.s) ts ≡ true → list_any (same_term t.p) ts ≡ true → list_any (same_term t.o) ts ≡ true → (v : ℕ) → Chosen ts (in_pattern v p) (bound p t v)
+pub bound-chosen : (ts : List RdfTerm) (p : Pattern) (t : RdfTriple) → list_any (same_term t.s) ts ≡ true → list_any (same_term t.p) ts ≡ true → list_any (same_term t.o) ts ≡ true → (v : ℕ) → Chosen ts (in_pattern v p) (bound p t v)
 bound-chosen ts p t a b c v =
     bind-chosen ts p.s t.s (bind_slot p.p t.p (bind_slot p.o t.o nothing)) v (is_variable v p.p || is_variable v p.o) a
     (bind-chosen ts p.p t.p (bind_slot p.o t.o nothing) v (is_variable v p.o) b

@@ -64,14 +64,14 @@ some_either (Some t) y h = refl
 some_either None y (inl e) = cc
 some_either None y (inr e) = e
 
-binds-merge : (vs ws : Variables) (a b : Mapping) → Binds vs a → Binds ws b → Binds (in_either vs ws) (merge a b)
+pub binds-merge : (vs ws : Variables) (a b : Mapping) → Binds vs a → Binds ws b → Binds (in_either vs ws) (merge a b)
 binds-merge vs ws a b p q = record { bound = λ v l e. at v l (or_cases (vs v) (ws v) e) }
   where
     at : (v : ℕ) → v < width → (vs v ≡ true) ⊎ (ws v ≡ true) → is_some (merge a b v) ≡ true
     at v l (inl e) = some_either (a v) (b v) (inl (p.bound v l e))
     at v l (inr e) = some_either (a v) (b v) (inr (q.bound v l e))
 
-binds-left : (vs : Variables) (a b : Mapping) → Binds vs a → Binds vs (merge a b)
+pub binds-left : (vs : Variables) (a b : Mapping) → Binds vs a → Binds vs (merge a b)
 binds-left vs a b p = record { bound = λ v l e. some_either (a v) (b v) (inl (p.bound v l e)) }
 
 binds-first : (vs ws : Variables) (a : Mapping) → Binds vs a → Binds (in_both vs ws) a
@@ -103,7 +103,7 @@ eval-binds {L} leaves certain e =
 
 -- ---- a tree's variables, and terms that stand in the triples
 
-over-merge : (vs ws : Variables) (ts : List RdfTerm) (a b : Mapping) → IsOver vs ts a → IsOver ws ts b → IsOver (in_either vs ws) ts (merge a b)
+pub over-merge : (vs ws : Variables) (ts : List RdfTerm) (a b : Mapping) → IsOver vs ts a → IsOver ws ts b → IsOver (in_either vs ws) ts (merge a b)
 over-merge vs ws ts a b p q = record { narrow = λ v l. ap₂ either (p.narrow v l) (q.narrow v l); alone = λ v e. alone v (cases_Bool (is_some (a v))) e; known = λ v t e. known v t (cases_Bool (is_some (a v))) e }
   where
     alone : (v : ℕ) → (is_some (a v) ≡ true) ⊎ (is_some (a v) ≡ false) → is_some (merge a b v) ≡ true → in_either vs ws v ≡ true
@@ -144,7 +144,7 @@ eval-over {L} leaves vars ts e =
 -- ---- leaves of patterns
 
 -- each term of a list stands in it
-members : (ts : List RdfTerm) → AllByRecursion (λ t. list_any (same_term t) ts ≡ true) ts
+pub members : (ts : List RdfTerm) → AllByRecursion (λ t. list_any (same_term t) ts ≡ true) ts
 members [] = tt
 members (t ∷ ts) = (
   or_left (same_term t t) (list_any (same_term t) ts) (same_term-self t),

@@ -1,0 +1,3 @@
+pub mod Stars
+pub mod Plans
+pub mod PlanLaws

@@ -178,3 +178,21 @@ join-nothing rs = record {
   where
     one : (n : ℕ) → n + 0 ≡ n
     one n = omega arith
+
+below-nothing_right : (n : ℕ) (a : Mapping) → agree_below n a nothing ≡ true
+below-nothing_right n a = below-comm n a nothing ∙ below-nothing n a
+
+merge-nothing : (a : Mapping) → merge a nothing ≡ a
+merge-nothing a = fun_ext (λ v. at (a v))
+  where
+    at : (x : Option RdfTerm) → either x None ≡ x
+    at (Some t) = refl
+    at None = refl
+
+pub join-nothing_right : (ls : List Mapping) → SameBag (join ls (nothing ∷ [])) ls
+join-nothing_right ls = record { totals = λ g.
+    total-joined g ls (nothing ∷ [])
+    ∙ total-same _ _ (λ a. one (cond (compatible a nothing) (g (merge a nothing)) 0) ∙ ap₂ (λ (t : Bool) (m : Mapping). cond t (g m) 0) (below-nothing_right width a) (merge-nothing a)) ls }
+  where
+    one : (n : ℕ) → n + 0 ≡ n
+    one n = omega arith

@@ -1,12 +1,12 @@
 -- A leaf of several patterns is the join of their leaves.
-use Rattle.std.specs.Prelude.{◌≡◌, ℕ, zero, suc, ◌<◌, ◌⊎◌, Bool, true, false, cond, if◌then◌else◌, ◌&&◌, ◌||◌, ◌==◌, List, [], ◌∷◌, ◌++◌, map, Option, None, is_some, refl}
+use Rattle.std.specs.Prelude.{◌≡◌, ℕ, zero, suc, ◌<◌, ◌⊎◌, Bool, true, false, cond, if◌then◌else◌, ◌&&◌, ◌||◌, ◌==◌, List, [], ◌∷◌, ◌++◌, map, Option, None, is_some, refl, not}
 use Rattle.std.proofs.Common.{sym, ap, ap₂, ◌∙◌, arith, ltb, inl, inr}
 use Rattle.std.proofs.Math.Path.{fun_ext}
 use Rattle.std.proofs.lemmas.Bool.{and_parts, cases_Bool, ltb-true}
-use Rattle.std.specs.List.{list_all, filter}
+use Rattle.std.specs.List.{list_any, list_all, filter}
 use Rattle.std.proofs.lemmas.List.Folds.{list_any-append}
 use Rattle.bags.specs.Bag.{total, SameBag}
-use Rattle.bags.specs.BagLaws.{total-same, total-each, total-cond, total-map, total-flat_map, total-filter, total-swap}
+use Rattle.bags.specs.BagLaws.{same-any, total-same, total-each, total-cond, total-map, total-flat_map, total-filter, total-swap}
 use Rattle.rdf_meaning.specs.Terms.{RdfTerm, RdfTriple}
 use Rattle.query_meaning.specs.declared.pattern.Pattern.{Pattern}
 use Rattle.query_meaning.specs.Mapping.{Mapping, nothing, set, width, agree, agree_below, compatible, either, merge}
@@ -136,3 +136,23 @@ assignments-nothing ts (suc v) = rw (assignments-nothing ts v) (ap (λ (m : Mapp
 
 pub leaf_nothing : (g : List RdfTriple) → leaf [] g ≡ nothing ∷ []
 leaf_nothing g = ap (filter (λ (m : Mapping). true)) (assignments-nothing (terms_of g) width)
+
+-- ---- the order of patterns
+
+all-not : {X : Type 0} (p : X → Bool) (xs : List X) → list_all p xs ≡ not (list_any (λ x. not (p x)) xs)
+all-not p [] = refl
+all-not p (x ∷ xs) = go (cases_Bool (p x)) (all-not p xs)
+  where
+    go : (p x ≡ true) ⊎ (p x ≡ false) → list_all p xs ≡ not (list_any (λ x. not (p x)) xs) → (p x && list_all p xs) ≡ not (not (p x) || list_any (λ x. not (p x)) xs)
+    go (inl e) h = rw e h
+    go (inr e) h = rw e refl
+
+same-all : {X : Type 0} (p : X → Bool) (xs ys : List X) → SameBag xs ys → list_all p xs ≡ list_all p ys
+same-all p xs ys s = all-not p xs ∙ ap not (same-any (λ x. not (p x)) xs ys s) ∙ sym (all-not p ys)
+
+-- patterns in another order have the same solutions
+pub leaf-order : (ps qs : List Pattern) (g : List RdfTriple) → SameBag ps qs → leaf ps g ≡ leaf qs g
+leaf-order ps qs g s =
+    let keeps : (λ m. list_all (holds g m) ps) ≡ (λ m. list_all (holds g m) qs) = fun_ext (λ m. same-all (holds g m) ps qs s) in
+    let occurs : (λ v. list_any (in_pattern v) ps) ≡ (λ v. list_any (in_pattern v) qs) = fun_ext (λ v. same-any (in_pattern v) ps qs s) in
+    ap₂ (λ (k : Mapping → Bool) (o : ℕ → Bool). filter k (assignments o (terms_of g) width)) keeps occurs

@@ -27,3 +27,10 @@ pub fn leaves_join()
 pub fn empty_leaf()
     ensures { (g : List RdfTriple) → leaf [] g ≡ nothing ∷ [] }
 {}
+
+/// Patterns in another order have the same solutions, one for one.
+// For the order in which a leaf's patterns are planned.
+pub fn patterns_in_any_order()
+    ensures { (ps qs : List Pattern) (g : List RdfTriple) → SameBag ps qs → leaf ps g ≡ leaf qs g }
+{
+}

@@ -1,3 +1,4 @@
 pub mod Entities
 pub mod StarLeaves
 pub mod StarVariables
+pub mod Merging

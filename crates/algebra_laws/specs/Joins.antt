@@ -190,9 +190,11 @@ merge-nothing a = fun_ext (λ v. at (a v))
     at None = refl
 
 pub join-nothing_right : (ls : List Mapping) → SameBag (join ls (nothing ∷ [])) ls
-join-nothing_right ls = record { totals = λ g.
-    total-joined g ls (nothing ∷ [])
-    ∙ total-same _ _ (λ a. one (cond (compatible a nothing) (g (merge a nothing)) 0) ∙ ap₂ (λ (t : Bool) (m : Mapping). cond t (g m) 0) (below-nothing_right width a) (merge-nothing a)) ls }
+join-nothing_right ls = record {
+  totals = λ g.
+      total-joined g ls (nothing ∷ [])
+      ∙ total-same _ _ (λ a. one (cond (compatible a nothing) (g (merge a nothing)) 0) ∙ ap₂ (λ (t : Bool) (m : Mapping). cond t (g m) 0) (below-nothing_right width a) (merge-nothing a)) ls;
+}
   where
     one : (n : ℕ) → n + 0 ≡ n
     one n = omega arith

@@ -32,5 +32,4 @@ pub fn empty_leaf()
 // For the order in which a leaf's patterns are planned.
 pub fn patterns_in_any_order()
     ensures { (ps qs : List Pattern) (g : List RdfTriple) → SameBag ps qs → leaf ps g ≡ leaf qs g }
-{
-}
+{}

@@ -1,5 +1,5 @@
 -- Stars that are merged (this project's own).
-use Rattle.std.specs.Prelude.{ℕ, Bool, true, false, not, ◌&&◌, List, [], ◌∷◌, map}
+use Rattle.std.specs.Prelude.{ℕ, Bool, false, not, ◌&&◌, List, [], map}
 use Rattle.std.specs.List.{flat_map}
 use Rattle.rdf_meaning.specs.Terms.{RdfTerm, is_empty}
 use Rattle.rdf_terms.specs.declared.side.SideName.{SideName}

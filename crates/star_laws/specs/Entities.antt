@@ -1,35 +1,26 @@
 -- What the triples of one entity give a pattern.
-use Rattle.std.specs.Prelude.{◌≡◌, ℕ, zero, suc, ◌+◌, ◌<◌, ◌≤◌, ◌⊎◌, Bool, true, false, cond, not, if◌then◌else◌, ◌&&◌, ◌||◌, ◌==◌, List, [], ◌∷◌, ◌++◌, map, Option, Some, None, is_some, refl}
-use Rattle.std.proofs.Common.{sym, ap, ap₂, ◌∙◌, subst, arith, eqb, ltb, inl, inr}
-use Rattle.std.proofs.Math.Path.{fun_ext}
-use Rattle.std.proofs.lemmas.Bool.{eqb-true, eq-eqb, ne_eqb, and_parts, and_from, or_parts, or_cases, or_left, or_right, or_from, cases_Bool, lt-ltb, le-ltb, cases_eq, cases_lt, ltb-true, both_ways, false_from_ne_true, and_cases}
-use Rattle.std.specs.List.{list_any, list_all, flat_map, filter, AllByRecursion, IsDistinct}
-use Rattle.std.proofs.lemmas.List.Folds.{list_any-append}
+use Rattle.std.specs.Prelude.{◌≡◌, ℕ, ◌<◌, ◌⊎◌, Bool, true, false, cond, ◌&&◌, ◌||◌, List, [], ◌∷◌, map, Some, refl}
+use Rattle.std.proofs.Common.{sym, ap, ap₂, ◌∙◌, subst, eqb, inl, inr}
+use Rattle.std.proofs.lemmas.Bool.{eq-eqb, and_parts, or_left, or_right, cases_Bool, both_ways}
+use Rattle.std.specs.List.{list_any, flat_map, filter, AllByRecursion, IsDistinct}
 use Rattle.bags.specs.Bag.{total, SameBag}
-use Rattle.bags.specs.BagLaws.{total-same, total-each, total-plus, total-zero, total-cond, total-none, total-map, total-flat_map, total-filter, total-swap, total-append, same-refl, same-sym, same-trans, same-append, same-map, same-filter, same-flat_map, same-flat_map_each, each-append, each-map, each-flat_map, each-weaker, each-any, each-filter}
+use Rattle.bags.specs.BagLaws.{total-same, total-each, total-flat_map, total-filter, total-swap, same-refl, same-flat_map, each-map, each-flat_map, each-weaker, each-any, each-filter}
 use Rattle.rdf_meaning.specs.Terms.{RdfTerm, RdfTriple, same_term, same_triple}
-use Rattle.rdf_meaning.specs.TermLaws.{same_term-is, same_term-self, same_term_equiv, same_triple-self}
+use Rattle.rdf_meaning.specs.TermLaws.{same_term-is, same_term_equiv}
 use Rattle.query_meaning.specs.declared.pattern.Slot.{Slot}
 use Rattle.query_meaning.specs.declared.pattern.Slot.TheVariants.{Var, Const}
 use Rattle.query_meaning.specs.declared.pattern.Pattern.{Pattern}
-use Rattle.query_meaning.specs.Mapping.{Mapping, nothing, set, width, agree, agree_below, compatible, either, merge}
-use Rattle.query_meaning.specs.Leaf.{with_term, terms_of, is_variable, in_pattern, choices, assignments, is_term, slot_is, instance_is, holds, leaf, bind_slot, bound, matches}
+use Rattle.query_meaning.specs.Mapping.{Mapping, width, agree, compatible, merge}
+use Rattle.query_meaning.specs.Leaf.{terms_of, is_variable, in_pattern, is_term, slot_is, instance_is, leaf, bound, matches}
 use Rattle.query_meaning.specs.Eval.{join, or_alone, found, left_join}
-use Rattle.query_meaning.specs.Variables.{Variables, IsNarrow, Binds, IsOver, in_both, in_either}
-use Rattle.query_meaning.specs.Matches.{same_below, Match, matches_of, unmatched, IsCovered}
 use Rattle.rdf_terms.specs.declared.side.SideName.{SideName}
 use Rattle.rdf_terms.specs.declared.side.SideName.TheVariants.{Direct, Reverse}
-use Rattle.query_meaning.specs.Width.{pattern_in_width, slot_in_width}
-use Rattle.plan_meaning.specs.declared.star.Arm.{Arm}
-use Rattle.plan_meaning.specs.declared.star.Star.{Star}
-use Rattle.plan_meaning.specs.declared.star.StarBody.{StarBody}
-use Rattle.plan_meaning.specs.declared.star.StarBody.TheVariants.{Both, Either}
-use Rattle.plan_meaning.specs.Stars.{entity_of, arm_pattern, arm_sols, entity_sols, with_required, with_optional, both_sols, body_sols, star_sols, stars_leaf}
-use Rattle.algebra_laws.specs.MappingLaws.{agreed, set-same, set-other, none-is}
+use Rattle.query_meaning.specs.Width.{pattern_in_width}
+use Rattle.plan_meaning.specs.Stars.{entity_of}
+use Rattle.algebra_laws.specs.MappingLaws.{agreed}
 use Rattle.algebra_laws.specs.Assignments.{terms-apart}
 use Rattle.algebra_laws.specs.OneLeaf.{leaf_one, pattern_below, total-one, total-matches, each-stands, Stands, is_term-some}
-use Rattle.algebra_laws.specs.Joins.{same-join, same-left_join, same-or_alone, total-joined, total-or_alone, total-found, join-nothing, join-assoc}
-use Rattle.algebra_laws.specs.LeavesJoin.{leaf_append, leaf_nothing}
+use Rattle.algebra_laws.specs.Joins.{total-joined, total-or_alone, total-found}
 
 -- the place of a pattern that is the entity
 abbrev pub entity_slot : SideName → Pattern → Slot
@@ -59,6 +50,7 @@ fits-entity side p t e m below tied i c = at (entity_slot side p) refl
   where
     slot : slot_is (bound p t) (entity_slot side p) (entity_of side t) ≡ true
     slot = entity_is side (bound p t) p t i
+
     at : (x : Slot) → entity_slot side p ≡ x → same_term (entity_of side t) e ≡ true
     at (Var v) q =
         let l : v < width = pattern_below p below v (entity_in side p v (ap (is_variable v) q ∙ eq-eqb v v refl)) in
@@ -80,6 +72,7 @@ term-of h side p t e m below tied = go (cases_Bool (same_term (entity_of side t)
   where
     is : total (λ b. cond (compatible m b) (h (merge m b)) 0) (matches p t) ≡ cond (instance_is (bound p t) p t) (cond (compatible m (bound p t)) (h (merge m (bound p t))) 0) 0
     is = total-matches (λ b. cond (compatible m b) (h (merge m b)) 0) p t
+
     go : (same_term (entity_of side t) e ≡ true) ⊎ (same_term (entity_of side t) e ≡ false) → (instance_is (bound p t) p t ≡ true) ⊎ (instance_is (bound p t) p t ≡ false) → (compatible m (bound p t) ≡ true) ⊎ (compatible m (bound p t) ≡ false) →
         total (λ b. cond (compatible m b) (h (merge m b)) 0) (matches p t) ≡ cond (same_term (entity_of side t) e) (total (λ b. cond (compatible m b) (h (merge m b)) 0) (matches p t)) 0
     go (inl s) i c = rw s refl
@@ -99,21 +92,25 @@ fitting k g side p e d below m tied =
     ∙ sym ((leaf_one p g d below).totals H)
 
 pub join-arm : (g : List RdfTriple) (side : SideName) (p : Pattern) (e : RdfTerm) → IsDistinct same_triple g → pattern_in_width p ≡ true → (ms : List Mapping) → AllByRecursion (Tied (entity_slot side p) e) ms → SameBag (join ms (pattern_sols g side e p)) (join ms (leaf (p ∷ []) g))
-join-arm g side p e d below ms tied = record { totals = λ h.
-    total-joined h ms (pattern_sols g side e p)
-    ∙ total-each _ _ (Tied (entity_slot side p) e) (λ m tm. fitting h g side p e d below m tm) ms tied
-    ∙ sym (total-joined h ms (leaf (p ∷ []) g)) }
+join-arm g side p e d below ms tied = record {
+  totals = λ h.
+      total-joined h ms (pattern_sols g side e p)
+      ∙ total-each _ _ (Tied (entity_slot side p) e) (λ m tm. fitting h g side p e d below m tm) ms tied
+      ∙ sym (total-joined h ms (leaf (p ∷ []) g));
+}
 
 pub left-arm : (g : List RdfTriple) (side : SideName) (p : Pattern) (e : RdfTerm) → IsDistinct same_triple g → pattern_in_width p ≡ true → (ms : List Mapping) → AllByRecursion (Tied (entity_slot side p) e) ms →
     SameBag (left_join (λ m. true) ms (pattern_sols g side e p)) (left_join (λ m. true) ms (leaf (p ∷ []) g))
-left-arm g side p e d below ms tied = record { totals = λ h.
-    let part : List Mapping → Mapping → ℕ = λ bs m. cond (eqb (total (λ b. cond (compatible m b) 1 0) bs) 0) (h m) (total (λ b. cond (compatible m b) (h (merge m b)) 0) bs) in
-    let parts : (bs : List Mapping) → total h (left_join (λ m. true) ms bs) ≡ total (part bs) ms =
-        λ bs. total-flat_map h (λ m. or_alone m (found (λ k. true) bs m)) ms
-          ∙ total-same _ _ (λ m. total-or_alone h m (found (λ k. true) bs m) ∙ ap₂ (λ a b. cond (eqb a 0) (h m) b) (total-found (λ n. 1) (λ k. true) bs m) (total-found h (λ k. true) bs m)) ms in
-    parts (pattern_sols g side e p)
-    ∙ total-each _ _ (Tied (entity_slot side p) e) (λ m t. ap₂ (λ a b. cond (eqb a 0) (h m) b) (fitting (λ n. 1) g side p e d below m t) (fitting h g side p e d below m t)) ms tied
-    ∙ sym (parts (leaf (p ∷ []) g)) }
+left-arm g side p e d below ms tied = record {
+  totals = λ h.
+      let part : List Mapping → Mapping → ℕ = λ bs m. cond (eqb (total (λ b. cond (compatible m b) 1 0) bs) 0) (h m) (total (λ b. cond (compatible m b) (h (merge m b)) 0) bs) in
+      let parts : (bs : List Mapping) → total h (left_join (λ m. true) ms bs) ≡ total (part bs) ms =
+      λ bs. total-flat_map h (λ m. or_alone m (found (λ k. true) bs m)) ms
+      ∙ total-same _ _ (λ m. total-or_alone h m (found (λ k. true) bs m) ∙ ap₂ (λ a b. cond (eqb a 0) (h m) b) (total-found (λ n. 1) (λ k. true) bs m) (total-found h (λ k. true) bs m)) ms in
+      parts (pattern_sols g side e p)
+      ∙ total-each _ _ (Tied (entity_slot side p) e) (λ m t. ap₂ (λ a b. cond (eqb a 0) (h m) b) (fitting (λ n. 1) g side p e d below m t) (fitting h g side p e d below m t)) ms tied
+      ∙ sym (parts (leaf (p ∷ []) g));
+}
 
 -- ---- what is tied stays so
 
@@ -124,8 +121,8 @@ merge-tied (Const c) e m b t = t
 pub join-tied : (x : Slot) (e : RdfTerm) (ms bs : List Mapping) → AllByRecursion (Tied x e) ms → AllByRecursion (Tied x e) (join ms bs)
 join-tied x e ms bs tied =
     each-flat_map (Tied x e) (λ a. map (merge a) (filter (compatible a) bs)) ms
-        (each-weaker (Tied x e) (λ a. AllByRecursion (Tied x e) (map (merge a) (filter (compatible a) bs)))
-            (λ a t. each-map (Tied x e) (merge a) (filter (compatible a) bs) (each-any (λ b. Tied x e (merge a b)) (λ b. merge-tied x e a b t) (filter (compatible a) bs))) ms tied)
+    (each-weaker (Tied x e) (λ a. AllByRecursion (Tied x e) (map (merge a) (filter (compatible a) bs)))
+    (λ a t. each-map (Tied x e) (merge a) (filter (compatible a) bs) (each-any (λ b. Tied x e (merge a b)) (λ b. merge-tied x e a b t) (filter (compatible a) bs))) ms tied)
 
 or_alone-tied : (x : Slot) (e : RdfTerm) (m : Mapping) (ms : List Mapping) → Tied x e m → AllByRecursion (Tied x e) ms → AllByRecursion (Tied x e) (or_alone m ms)
 or_alone-tied x e m [] t all = (t, tt)
@@ -134,9 +131,9 @@ or_alone-tied x e m (n ∷ ns) t all = all
 pub left-tied : (x : Slot) (e : RdfTerm) (ms bs : List Mapping) → AllByRecursion (Tied x e) ms → AllByRecursion (Tied x e) (left_join (λ m. true) ms bs)
 left-tied x e ms bs tied =
     each-flat_map (Tied x e) (λ a. or_alone a (found (λ m. true) bs a)) ms
-        (each-weaker (Tied x e) (λ a. AllByRecursion (Tied x e) (or_alone a (found (λ m. true) bs a)))
-            (λ a t. or_alone-tied x e a (found (λ m. true) bs a) t (each-filter (Tied x e) (λ m. true) (map (merge a) (filter (compatible a) bs))
-                (each-map (Tied x e) (merge a) (filter (compatible a) bs) (each-any (λ b. Tied x e (merge a b)) (λ b. merge-tied x e a b t) (filter (compatible a) bs))))) ms tied)
+    (each-weaker (Tied x e) (λ a. AllByRecursion (Tied x e) (or_alone a (found (λ m. true) bs a)))
+    (λ a t. or_alone-tied x e a (found (λ m. true) bs a) t (each-filter (Tied x e) (λ m. true) (map (merge a) (filter (compatible a) bs))
+    (each-map (Tied x e) (merge a) (filter (compatible a) bs) (each-any (λ b. Tied x e (merge a b)) (λ b. merge-tied x e a b t) (filter (compatible a) bs))))) ms tied)
 
 bound-tied : (side : SideName) (p : Pattern) (t : RdfTriple) (e : RdfTerm) → same_term (entity_of side t) e ≡ true → instance_is (bound p t) p t ≡ true → Tied (entity_slot side p) e (bound p t)
 bound-tied side p t e s i = at (entity_slot side p) (entity_is side (bound p t) p t i)
@@ -172,28 +169,34 @@ entity_stands Reverse ts t s = s.o
 
 -- over all entities, one pattern has all its triples
 pub sols_of_all : (g : List RdfTriple) (side : SideName) (p : Pattern) → SameBag (flat_map (λ e. pattern_sols g side e p) (terms_of g)) (flat_map (matches p) g)
-sols_of_all g side p = record { totals = λ h.
-    let M : RdfTriple → ℕ = λ t. total h (matches p t) in
-    let ts = terms_of g in
-    total-flat_map h (λ e. pattern_sols g side e p) ts
-    ∙ total-same _ _ (λ e. total-flat_map h (matches p) (filter (λ (t : RdfTriple). same_term (entity_of side t) e) g) ∙ total-filter M (λ (t : RdfTriple). same_term (entity_of side t) e) g) ts
-    ∙ total-swap (λ e t. cond (same_term (entity_of side t) e) (M t) 0) ts g
-    ∙ total-each _ _ (Stands ts) (λ t st. total-same _ _ (λ e. ap (λ b. cond b (M t) 0) (same_term_equiv.symm (entity_of side t) e)) ts ∙ total-one (entity_of side t) (M t) ts (terms-apart g) (entity_stands side ts t st)) g (each-stands g)
-    ∙ sym (total-flat_map h (matches p) g) }
+sols_of_all g side p = record {
+  totals = λ h.
+      let M : RdfTriple → ℕ = λ t. total h (matches p t) in
+      let ts = terms_of g in
+      total-flat_map h (λ e. pattern_sols g side e p) ts
+      ∙ total-same _ _ (λ e. total-flat_map h (matches p) (filter (λ (t : RdfTriple). same_term (entity_of side t) e) g) ∙ total-filter M (λ (t : RdfTriple). same_term (entity_of side t) e) g) ts
+      ∙ total-swap (λ e t. cond (same_term (entity_of side t) e) (M t) 0) ts g
+      ∙ total-each _ _ (Stands ts) (λ t st. total-same _ _ (λ e. ap (λ b. cond b (M t) 0) (same_term_equiv.symm (entity_of side t) e)) ts ∙ total-one (entity_of side t) (M t) ts (terms-apart g) (entity_stands side ts t st)) g (each-stands g)
+      ∙ sym (total-flat_map h (matches p) g);
+}
 
 -- a join of each, and then all together, is the join of all
 pub join-flat_map : (acc : RdfTerm → List Mapping) (ts : List RdfTerm) (bs : List Mapping) → SameBag (flat_map (λ e. join (acc e) bs) ts) (join (flat_map acc ts) bs)
-join-flat_map acc ts bs = record { totals = λ h.
-    total-flat_map h (λ e. join (acc e) bs) ts
-    ∙ total-same _ _ (λ e. total-joined h (acc e) bs) ts
-    ∙ sym (total-joined h (flat_map acc ts) bs ∙ total-flat_map (λ a. total (λ b. cond (compatible a b) (h (merge a b)) 0) bs) acc ts) }
+join-flat_map acc ts bs = record {
+  totals = λ h.
+      total-flat_map h (λ e. join (acc e) bs) ts
+      ∙ total-same _ _ (λ e. total-joined h (acc e) bs) ts
+      ∙ sym (total-joined h (flat_map acc ts) bs ∙ total-flat_map (λ a. total (λ b. cond (compatible a b) (h (merge a b)) 0) bs) acc ts);
+}
 
 pub left_join-flat_map : (acc : RdfTerm → List Mapping) (ts : List RdfTerm) (bs : List Mapping) → SameBag (flat_map (λ e. left_join (λ m. true) (acc e) bs) ts) (left_join (λ m. true) (flat_map acc ts) bs)
-left_join-flat_map acc ts bs = record { totals = λ h.
-    let F : Mapping → List Mapping = λ m. or_alone m (found (λ k. true) bs m) in
-    total-flat_map h (λ e. left_join (λ m. true) (acc e) bs) ts
-    ∙ total-same _ _ (λ e. total-flat_map h F (acc e)) ts
-    ∙ sym (total-flat_map h F (flat_map acc ts) ∙ total-flat_map (λ m. total h (F m)) acc ts) }
+left_join-flat_map acc ts bs = record {
+  totals = λ h.
+      let F : Mapping → List Mapping = λ m. or_alone m (found (λ k. true) bs m) in
+      total-flat_map h (λ e. left_join (λ m. true) (acc e) bs) ts
+      ∙ total-same _ _ (λ e. total-flat_map h F (acc e)) ts
+      ∙ sym (total-flat_map h F (flat_map acc ts) ∙ total-flat_map (λ m. total h (F m)) acc ts);
+}
 
 pub same-flat_map_at : {X Y : Type 0} (f h : X → List Y) → ((x : X) → SameBag (f x) (h x)) → (xs : List X) → SameBag (flat_map f xs) (flat_map h xs)
 same-flat_map_at f h e xs = same-flat_map f h xs xs (same-refl xs) e

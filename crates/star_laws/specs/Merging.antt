@@ -1,37 +1,27 @@
 -- Stars of a leaf may be merged: required arms of one entity, an optional arm, and two sides of a union.
-use Rattle.std.specs.Prelude.{◌≡◌, ℕ, zero, suc, ◌+◌, ◌<◌, ◌≤◌, ◌⊎◌, Bool, true, false, cond, not, if◌then◌else◌, ◌&&◌, ◌||◌, ◌==◌, List, [], ◌∷◌, ◌++◌, map, Option, Some, None, is_some, refl}
-use Rattle.std.proofs.Common.{sym, ap, ap₂, ◌∙◌, subst, arith, eqb, ltb, inl, inr}
-use Rattle.std.proofs.Math.Path.{fun_ext}
-use Rattle.std.proofs.lemmas.Bool.{eqb-true, eq-eqb, ne_eqb, and_parts, and_from, or_parts, or_cases, or_left, or_right, or_from, cases_Bool, lt-ltb, le-ltb, cases_eq, cases_lt, ltb-true, both_ways, false_from_ne_true, and_cases}
-use Rattle.std.specs.List.{list_any, list_all, flat_map, filter, AllByRecursion, IsDistinct}
-use Rattle.std.proofs.lemmas.List.Folds.{list_any-append}
-use Rattle.bags.specs.Bag.{total, SameBag}
-use Rattle.bags.specs.BagLaws.{total-same, total-each, total-plus, total-zero, total-cond, total-none, total-map, total-flat_map, total-filter, total-swap, total-append, same-refl, same-sym, same-trans, same-append, same-map, same-filter, same-flat_map, same-flat_map_each, each-append, each-map, each-flat_map, each-weaker, each-any, each-filter}
-use Rattle.rdf_meaning.specs.Terms.{RdfTerm, RdfTriple, same_term, same_triple}
-use Rattle.rdf_meaning.specs.TermLaws.{same_term-is, same_term-self, same_term_equiv, same_triple-self}
+use Rattle.std.specs.Prelude.{◌≡◌, ℕ, ◌<◌, ◌≤◌, ◌⊎◌, Bool, true, false, ◌||◌, ◌==◌, List, [], ◌∷◌, ◌++◌, map, None, is_some, refl}
+use Rattle.std.proofs.Common.{sym, ap, ◌∙◌, subst, inl, inr}
+use Rattle.std.proofs.lemmas.Bool.{eqb-true, and_parts, and_from, or_cases, or_left, lt-ltb, cases_lt, both_ways}
+use Rattle.std.specs.List.{list_all, AllByRecursion, IsDistinct}
+use Rattle.bags.specs.Bag.{SameBag}
+use Rattle.bags.specs.BagLaws.{same-refl, same-sym, same-trans, same-append, each-weaker}
+use Rattle.rdf_meaning.specs.Terms.{RdfTerm, RdfTriple, same_triple}
 use Rattle.query_meaning.specs.declared.pattern.Slot.{Slot}
-use Rattle.query_meaning.specs.declared.pattern.Slot.TheVariants.{Var, Const}
 use Rattle.query_meaning.specs.declared.pattern.Pattern.{Pattern}
-use Rattle.query_meaning.specs.Mapping.{Mapping, nothing, set, width, agree, agree_below, compatible, either, merge}
-use Rattle.query_meaning.specs.Leaf.{with_term, terms_of, is_variable, in_pattern, choices, assignments, is_term, slot_is, instance_is, holds, leaf, bind_slot, bound, matches}
-use Rattle.query_meaning.specs.Eval.{join, or_alone, found, left_join}
-use Rattle.query_meaning.specs.Variables.{Variables, IsNarrow, Binds, IsOver, in_both, in_either}
-use Rattle.query_meaning.specs.Matches.{same_below, Match, matches_of, unmatched, IsCovered}
+use Rattle.query_meaning.specs.Mapping.{Mapping, nothing, width}
+use Rattle.query_meaning.specs.Leaf.{terms_of, is_variable, leaf}
+use Rattle.query_meaning.specs.Eval.{join, left_join}
+use Rattle.query_meaning.specs.Variables.{Variables, IsNarrow, Binds, IsOver}
+use Rattle.query_meaning.specs.Matches.{IsCovered}
 use Rattle.rdf_terms.specs.declared.side.SideName.{SideName}
-use Rattle.rdf_terms.specs.declared.side.SideName.TheVariants.{Direct, Reverse}
-use Rattle.query_meaning.specs.Width.{pattern_in_width, slot_in_width}
+use Rattle.query_meaning.specs.Width.{slot_in_width}
 use Rattle.plan_meaning.specs.declared.star.Arm.{Arm}
 use Rattle.plan_meaning.specs.declared.star.Star.{Star}
 use Rattle.plan_meaning.specs.declared.star.StarBody.{StarBody}
 use Rattle.plan_meaning.specs.declared.star.StarBody.TheVariants.{Both, Either}
-use Rattle.plan_meaning.specs.Stars.{entity_of, arm_pattern, arm_sols, entity_sols, with_required, with_optional, both_sols, body_sols, star_sols, stars_leaf, arm_variables, arms_variables, body_variables, star_variables, stars_variables, star_certain, left_joins, arms_of, arm_in_width, star_in_width}
-use Rattle.algebra_laws.specs.MappingLaws.{agreed, set-same, set-other, none-is}
-use Rattle.algebra_laws.specs.Assignments.{terms-apart}
-use Rattle.algebra_laws.specs.OneLeaf.{leaf_one, pattern_below, total-one, total-matches, each-stands, Stands, is_term-some}
-use Rattle.algebra_laws.specs.Joins.{same-join, same-left_join, same-or_alone, total-joined, total-or_alone, total-found, join-nothing, join-nothing_right, join-comm, join-assoc}
+use Rattle.plan_meaning.specs.Stars.{arm_pattern, both_sols, body_sols, star_sols, stars_leaf, arms_variables, star_variables, stars_variables, star_certain, left_joins, arms_of, arm_in_width, star_in_width}
+use Rattle.algebra_laws.specs.Joins.{same-join, same-left_join, join-nothing_right, join-comm, join-assoc}
 use Rattle.algebra_laws.specs.LeavesJoin.{leaf_append, leaf_nothing}
-use Rattle.algebra_laws.specs.TreeSolutions.{each-join, each-left_join, leaf-over}
-use Rattle.star_laws.specs.Entities.{entity_slot, pattern_sols, Tied, fitting, join-arm, left-arm, join-tied, left-tied, sols-tied, sols_of_all, join-flat_map, left_join-flat_map, same-flat_map_at}
 use Rattle.std.proofs.lemmas.List.{append_assoc, append-nil}
 use Rattle.rdf_meaning.specs.Terms.{is_empty}
 use Rattle.plan_meaning.specs.Merged.{both, one_arm, is_required_only, patterns_of, all_patterns}
@@ -50,7 +40,7 @@ pub either-leaves : (g : List RdfTriple) → IsDistinct same_triple g → (x : S
     SameBag (body_sols g x side (Either left right)) (leaf (map (arm_pattern x side) left) g ++ leaf (map (arm_pattern x side) right) g)
 either-leaves g d x side left right n m w l r =
     same-append (both_sols g x side left []) (leaf (map (arm_pattern x side) left) g) (both_sols g x side right []) (leaf (map (arm_pattern x side) right) g)
-        (star-leaf g d x side left n w l) (star-leaf g d x side right m w r)
+    (star-leaf g d x side left n w l) (star-leaf g d x side right m w r)
 
 -- ---- a leaf of stars is a leaf of patterns
 
@@ -68,8 +58,8 @@ stars-patterns g d (star ∷ stars) f w =
     let q = and_parts (star_in_width star) (list_all star_in_width stars) w in
     let r = and_parts (slot_in_width star.entity) (list_all arm_in_width (arms_of star.body)) q.0 in
     same-trans (same-join (star_sols g star) (leaf (patterns_of star.entity star.side star.body) g) (stars_leaf g stars) (leaf (all_patterns stars) g)
-        (required-star g d star.entity star.side star.body p.0 r.0 r.1) (stars-patterns g d stars p.1 q.1))
-        (same-sym (leaf_append (patterns_of star.entity star.side star.body) (all_patterns stars) g))
+    (required-star g d star.entity star.side star.body p.0 r.0 r.1) (stars-patterns g d stars p.1 q.1))
+    (same-sym (leaf_append (patterns_of star.entity star.side star.body) (all_patterns stars) g))
 
 -- ---- a star may stand anywhere in its leaf
 
@@ -122,7 +112,7 @@ arms-merge g d x side first second n m w a b =
     same-trans (same-join (both_sols g x side first []) (leaf ps g) (both_sols g x side second []) (leaf qs g) (star-leaf g d x side first n w a) (star-leaf g d x side second m w b))
     (same-trans (same-sym (leaf_append ps qs g))
     (subst (λ (rs : List Pattern). SameBag (leaf rs g) (both_sols g x side (first ++ second) [])) (map-append (arm_pattern x side) first second)
-        (same-sym (star-leaf g d x side (first ++ second) (not-empty first second n) w (all-both arm_in_width first second a b)))))
+    (same-sym (star-leaf g d x side (first ++ second) (not-empty first second n) w (all-both arm_in_width first second a b)))))
 
 -- in a leaf, the merged star stands at the place of the first
 pub leaf-merge : (g : List RdfTriple) → IsDistinct same_triple g → (x : Slot) (side : SideName) (first second : List Arm) (before between after : List Star) → is_empty first ≡ false → is_empty second ≡ false →
@@ -145,11 +135,11 @@ leaf-merge g d x side first second before between after n m w =
     let T = star_sols g two in
     let L = stars_leaf g ((before ++ between) ++ after) in
     let middle : SameBag (stars_leaf g (before ++ (between ++ two ∷ after))) (join T L) =
-        subst (λ (ss : List Star). SameBag (stars_leaf g ss) (join T L)) (append_assoc before between (two ∷ after))
-            (star-first g (before ++ between) two after (all-both star_in_width before between h.0 j.0) k.0) in
+    subst (λ (ss : List Star). SameBag (stars_leaf g ss) (join T L)) (append_assoc before between (two ∷ after))
+    (star-first g (before ++ between) two after (all-both star_in_width before between h.0 j.0) k.0) in
     let ends : SameBag (join (star_sols g merged) L) (stars_leaf g (before ++ merged ∷ (between ++ after))) =
-        subst (λ (ss : List Star). SameBag (join (star_sols g merged) (stars_leaf g ss)) (stars_leaf g (before ++ merged ∷ (between ++ after)))) (sym (append_assoc before between after))
-            (same-sym (star-first g before merged (between ++ after) h.0 wm)) in
+    subst (λ (ss : List Star). SameBag (join (star_sols g merged) (stars_leaf g ss)) (stars_leaf g (before ++ merged ∷ (between ++ after)))) (sym (append_assoc before between after))
+    (same-sym (star-first g before merged (between ++ after) h.0 wm)) in
     same-trans (star-first g before one (between ++ two ∷ after) h.0 i.0)
     (same-trans (same-join S S (stars_leaf g (before ++ (between ++ two ∷ after))) (join T L) (same-refl S) middle)
     (same-trans (same-sym (join-assoc S T L))
@@ -170,10 +160,10 @@ optional-merge g d x side required optional a n w r o k =
     let p = arm_pattern x side a in
     let one : list_all arm_in_width (a ∷ []) ≡ true = and_from (arm_in_width a) true k refl in
     same-trans (same-left_join (λ m. true) (both_sols g x side required optional) (left_joins g (leaf ps g) qs) (both_sols g x side (a ∷ []) []) (leaf (p ∷ []) g)
-        (both-left_joins g d x side required optional n w r o) (star-leaf g d x side (a ∷ []) refl w one))
+    (both-left_joins g d x side required optional n w r o) (star-leaf g d x side (a ∷ []) refl w one))
     (subst (λ (ms : List Mapping). SameBag ms (both_sols g x side required (optional ++ a ∷ []))) (joins-append g (leaf ps g) qs p)
     (subst (λ (rs : List Pattern). SameBag (left_joins g (leaf ps g) rs) (both_sols g x side required (optional ++ a ∷ []))) (map-append (arm_pattern x side) optional (a ∷ []))
-        (same-sym (both-left_joins g d x side required (optional ++ a ∷ []) n w r (all-both arm_in_width optional (a ∷ []) o one)))))
+    (same-sym (both-left_joins g d x side required (optional ++ a ∷ []) n w r (all-both arm_in_width optional (a ∷ []) o one)))))
 
 is_some-none : (m : Mapping) (v : ℕ) → m v ≡ None → is_some (m v) ≡ true → ⊥
 is_some-none m v n e = both_ways (is_some (m v)) (ap is_some n) e
@@ -194,7 +184,7 @@ covered g x vs v l y b ol f by ob u p q = at (cases_lt u width)
 pub leaf-optional : (g : List RdfTriple) → IsDistinct same_triple g → (x : Slot) (side : SideName) (required optional : List Arm) (number : ℕ) (pred : RdfTerm) (v : ℕ) (before after : List Star) → is_empty required ≡ false →
     list_all star_in_width (before ++ both x side required optional ∷ after) ≡ true → v < width → stars_variables (before ++ after) v ≡ false →
     SameBag (left_join (λ m. true) (stars_leaf g (before ++ both x side required optional ∷ after)) (stars_leaf g (both x side (one_arm number pred v ∷ []) [] ∷ [])))
-        (stars_leaf g (before ++ both x side required (optional ++ one_arm number pred v ∷ []) ∷ after))
+    (stars_leaf g (before ++ both x side required (optional ++ one_arm number pred v ∷ []) ∷ after))
 leaf-optional g d x side required optional number pred v before after n w l f =
     let a = one_arm number pred v in
     let star = both x side required optional in
@@ -218,9 +208,9 @@ leaf-optional g d x side required optional number pred v before after n w l f =
     let alone : SameBag (stars_leaf g (lone ∷ [])) B = join-nothing_right B in
     let ob : AllByRecursion (IsOver (λ u. is_variable u x || (u == v)) (terms_of g)) B = each-weaker (IsOver (star_variables lone) (terms_of g)) (IsOver (λ u. is_variable u x || (u == v)) (terms_of g)) (over-more (star_variables lone) (λ u. is_variable u x || (u == v)) (terms_of g) (λ u q. own u q)) B (star-over g lone wl) in
     let cover : AllByRecursion (λ m. AllByRecursion (λ y. AllByRecursion (IsCovered m y) B) S) L =
-        each-weaker (IsOver (stars_variables (before ++ after)) (terms_of g)) (λ m. AllByRecursion (λ y. AllByRecursion (IsCovered m y) B) S) (λ m om.
-            each-weaker (Binds (star_certain star)) (λ y. AllByRecursion (IsCovered m y) B) (λ y by.
-                each-weaker (IsOver (λ u. is_variable u x || (u == v)) (terms_of g)) (IsCovered m y) (λ b ob. covered g x (stars_variables (before ++ after)) v m y b om f (entity y by) ob) B ob) S (star-binds g star)) L (stars-over g (before ++ after) wr) in
+    each-weaker (IsOver (stars_variables (before ++ after)) (terms_of g)) (λ m. AllByRecursion (λ y. AllByRecursion (IsCovered m y) B) S) (λ m om.
+    each-weaker (Binds (star_certain star)) (λ y. AllByRecursion (IsCovered m y) B) (λ y by.
+    each-weaker (IsOver (λ u. is_variable u x || (u == v)) (terms_of g)) (IsCovered m y) (λ b ob. covered g x (stars_variables (before ++ after)) v m y b om f (entity y by) ob) B ob) S (star-binds g star)) L (stars-over g (before ++ after) wr) in
     same-trans (same-left_join (λ m. true) (stars_leaf g (before ++ star ∷ after)) (join L S) (stars_leaf g (lone ∷ [])) B turned alone)
     (same-trans (left_join_into L S B cover)
     (same-trans (same-join L L (left_join (λ m. true) S B) (star_sols g more) (same-refl L) (optional-merge g d x side required optional a n j.0 k.0 k.1 wa))
@@ -234,6 +224,7 @@ leaf-optional g d x side required optional number pred v before after n w l f =
         at true r e = refl
         at false true e = refl
         at false false e = cc
+
     entity : (y : Mapping) → Binds (star_certain (both x side required optional)) y → Binds (λ u. is_variable u x) y
     entity y by = record { bound = λ u k h. by.bound u k (or_left (is_variable u x) (arms_variables required u) h) }
 

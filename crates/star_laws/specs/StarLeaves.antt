@@ -1,37 +1,29 @@
 -- A star is the leaf of its required arms' patterns, left-joined with each optional one in turn.
-use Rattle.std.specs.Prelude.{◌≡◌, ℕ, zero, suc, ◌+◌, ◌<◌, ◌≤◌, ◌⊎◌, Bool, true, false, cond, not, if◌then◌else◌, ◌&&◌, ◌||◌, ◌==◌, List, [], ◌∷◌, ◌++◌, map, Option, Some, None, is_some, refl}
-use Rattle.std.proofs.Common.{sym, ap, ap₂, ◌∙◌, subst, arith, eqb, ltb, inl, inr}
+use Rattle.std.specs.Prelude.{◌≡◌, ℕ, zero, suc, ◌+◌, ◌⊎◌, Bool, true, false, cond, if◌then◌else◌, ◌&&◌, ◌==◌, List, [], ◌∷◌, ◌++◌, map, Some, None, refl}
+use Rattle.std.proofs.Common.{sym, ap, ap₂, ◌∙◌, subst, arith, inl, inr}
 use Rattle.std.proofs.Math.Path.{fun_ext}
-use Rattle.std.proofs.lemmas.Bool.{eqb-true, eq-eqb, ne_eqb, and_parts, and_from, or_parts, or_cases, or_left, or_right, or_from, cases_Bool, lt-ltb, le-ltb, cases_eq, cases_lt, ltb-true, both_ways, false_from_ne_true, and_cases}
-use Rattle.std.specs.List.{list_any, list_all, flat_map, filter, AllByRecursion, IsDistinct}
-use Rattle.std.proofs.lemmas.List.Folds.{list_any-append}
+use Rattle.std.proofs.lemmas.Bool.{eqb-true, and_parts, and_from, cases_Bool, both_ways}
+use Rattle.std.specs.List.{list_all, flat_map, AllByRecursion, IsDistinct}
 use Rattle.bags.specs.Bag.{total, SameBag}
-use Rattle.bags.specs.BagLaws.{total-same, total-each, total-plus, total-zero, total-cond, total-none, total-map, total-flat_map, total-filter, total-swap, total-append, same-refl, same-sym, same-trans, same-append, same-map, same-filter, same-flat_map, same-flat_map_each, each-append, each-map, each-flat_map, each-weaker, each-any, each-filter}
+use Rattle.bags.specs.BagLaws.{total-each, same-refl, same-sym, same-trans}
 use Rattle.rdf_meaning.specs.Terms.{RdfTerm, RdfTriple, same_term, same_triple}
-use Rattle.rdf_meaning.specs.TermLaws.{same_term-is, same_term-self, same_term_equiv, same_triple-self}
+use Rattle.rdf_meaning.specs.TermLaws.{same_term-self}
 use Rattle.query_meaning.specs.declared.pattern.Slot.{Slot}
 use Rattle.query_meaning.specs.declared.pattern.Slot.TheVariants.{Var, Const}
 use Rattle.query_meaning.specs.declared.pattern.Pattern.{Pattern}
 use Rattle.query_meaning.specs.Mapping.{Mapping, nothing, set, width, agree, agree_below, compatible, either, merge}
-use Rattle.query_meaning.specs.Leaf.{with_term, terms_of, is_variable, in_pattern, choices, assignments, is_term, slot_is, instance_is, holds, leaf, bind_slot, bound, matches}
-use Rattle.query_meaning.specs.Eval.{join, or_alone, found, left_join}
-use Rattle.query_meaning.specs.Variables.{Variables, IsNarrow, Binds, IsOver, in_both, in_either}
-use Rattle.query_meaning.specs.Matches.{same_below, Match, matches_of, unmatched, IsCovered}
+use Rattle.query_meaning.specs.Leaf.{terms_of, leaf}
+use Rattle.query_meaning.specs.Eval.{join, left_join}
 use Rattle.rdf_terms.specs.declared.side.SideName.{SideName}
 use Rattle.rdf_terms.specs.declared.side.SideName.TheVariants.{Direct, Reverse}
 use Rattle.query_meaning.specs.Width.{pattern_in_width, slot_in_width}
 use Rattle.plan_meaning.specs.declared.star.Arm.{Arm}
-use Rattle.plan_meaning.specs.declared.star.Star.{Star}
-use Rattle.plan_meaning.specs.declared.star.StarBody.{StarBody}
-use Rattle.plan_meaning.specs.declared.star.StarBody.TheVariants.{Both, Either}
-use Rattle.plan_meaning.specs.Stars.{entity_of, arm_pattern, arm_sols, entity_sols, with_required, with_optional, both_sols, body_sols, star_sols, stars_leaf, left_joins, arms_of, arm_in_width, star_in_width}
-use Rattle.algebra_laws.specs.MappingLaws.{agreed, set-same, set-other, none-is}
-use Rattle.algebra_laws.specs.Assignments.{terms-apart}
-use Rattle.algebra_laws.specs.OneLeaf.{leaf_one, pattern_below, total-one, total-matches, each-stands, Stands, is_term-some}
-use Rattle.algebra_laws.specs.Joins.{same-join, same-left_join, same-or_alone, total-joined, total-or_alone, total-found, join-nothing, join-assoc}
-use Rattle.algebra_laws.specs.LeavesJoin.{leaf_append, leaf_nothing}
-use Rattle.algebra_laws.specs.TreeSolutions.{each-join, each-left_join, leaf-over}
-use Rattle.star_laws.specs.Entities.{entity_slot, pattern_sols, Tied, fitting, join-arm, left-arm, join-tied, left-tied, sols-tied, sols_of_all, join-flat_map, left_join-flat_map, same-flat_map_at}
+use Rattle.plan_meaning.specs.Stars.{arm_pattern, arm_sols, entity_sols, with_required, with_optional, both_sols, left_joins, arm_in_width}
+use Rattle.algebra_laws.specs.MappingLaws.{set-same}
+use Rattle.algebra_laws.specs.OneLeaf.{leaf_one}
+use Rattle.algebra_laws.specs.Joins.{same-join, same-left_join, total-joined, join-nothing}
+use Rattle.algebra_laws.specs.LeavesJoin.{leaf_append}
+use Rattle.star_laws.specs.Entities.{entity_slot, pattern_sols, Tied, join-arm, left-arm, join-tied, left-tied, sols-tied, sols_of_all, join-flat_map, left_join-flat_map, same-flat_map_at}
 use Rattle.std.proofs.lemmas.List.{append_assoc, append-nil}
 use Rattle.rdf_meaning.specs.Terms.{is_empty}
 
@@ -100,11 +92,13 @@ none-tied c e (b ∷ bs) f t = absurd (both_ways (same_term c e) f t.0)
 
 -- the entity alone adds nothing to what is of the entity
 pub entity-first : (x : Slot) (e : RdfTerm) (bs : List Mapping) → AllByRecursion (Tied x e) bs → SameBag (join (entity_sols x e) bs) bs
-entity-first (Var v) e bs tied = record { totals = λ h.
-    ap (λ (ms : List Mapping). total h (join ms bs)) (var-sols v e)
-    ∙ total-joined h (set v (Some e) nothing ∷ []) bs
-    ∙ one (total (λ b. cond (compatible (set v (Some e) nothing) b) (h (merge (set v (Some e) nothing) b)) 0) bs)
-    ∙ total-each _ _ (Tied (Var v) e) (λ b t. ap₂ (λ (c : Bool) (m : Mapping). cond c (h m) 0) (below-var v e b t width) (merge-var v e b t)) bs tied }
+entity-first (Var v) e bs tied = record {
+  totals = λ h.
+      ap (λ (ms : List Mapping). total h (join ms bs)) (var-sols v e)
+      ∙ total-joined h (set v (Some e) nothing ∷ []) bs
+      ∙ one (total (λ b. cond (compatible (set v (Some e) nothing) b) (h (merge (set v (Some e) nothing) b)) 0) bs)
+      ∙ total-each _ _ (Tied (Var v) e) (λ b t. ap₂ (λ (c : Bool) (m : Mapping). cond c (h m) 0) (below-var v e b t width) (merge-var v e b t)) bs tied;
+}
   where
     one : (n : ℕ) → n + 0 ≡ n
     one n = omega arith
@@ -135,14 +129,14 @@ required-leaf g side d x [] done arms acc tied s = subst (λ (ps : List Pattern)
 required-leaf g side d x (p ∷ ps) done arms acc tied s =
     let a = arms.0 in
     let one : (e : RdfTerm) → SameBag (join (acc e) (pattern_sols g side e p)) (join (acc e) (leaf (p ∷ []) g)) =
-        λ e. join-arm g side p e d a.below (acc e) (tied-at side x p e (acc e) a.entity (tied e)) in
+    λ e. join-arm g side p e d a.below (acc e) (tied-at side x p e (acc e) a.entity (tied e)) in
     let step : SameBag (flat_map (λ e. join (acc e) (pattern_sols g side e p)) (terms_of g)) (leaf (done ++ p ∷ []) g) =
-        same-trans (same-flat_map_at (λ e. join (acc e) (pattern_sols g side e p)) (λ e. join (acc e) (leaf (p ∷ []) g)) one (terms_of g))
-        (same-trans (join-flat_map acc (terms_of g) (leaf (p ∷ []) g))
-        (same-trans (same-join (flat_map acc (terms_of g)) (leaf done g) (leaf (p ∷ []) g) (leaf (p ∷ []) g) s (same-refl (leaf (p ∷ []) g)))
-        (same-sym (leaf_append done (p ∷ []) g)))) in
+    same-trans (same-flat_map_at (λ e. join (acc e) (pattern_sols g side e p)) (λ e. join (acc e) (leaf (p ∷ []) g)) one (terms_of g))
+    (same-trans (join-flat_map acc (terms_of g) (leaf (p ∷ []) g))
+    (same-trans (same-join (flat_map acc (terms_of g)) (leaf done g) (leaf (p ∷ []) g) (leaf (p ∷ []) g) s (same-refl (leaf (p ∷ []) g)))
+    (same-sym (leaf_append done (p ∷ []) g)))) in
     subst (λ (qs : List Pattern). SameBag (flat_map (λ e. required_of g side e ps (join (acc e) (pattern_sols g side e p))) (terms_of g)) (leaf qs g)) (append_assoc done (p ∷ []) ps)
-        (required-leaf g side d x ps (done ++ p ∷ []) arms.1 (λ e. join (acc e) (pattern_sols g side e p)) (λ e. join-tied x e (acc e) (pattern_sols g side e p) (tied e)) step)
+    (required-leaf g side d x ps (done ++ p ∷ []) arms.1 (λ e. join (acc e) (pattern_sols g side e p)) (λ e. join-tied x e (acc e) (pattern_sols g side e p) (tied e)) step)
 
 first-tied : (g : List RdfTriple) (side : SideName) (x : Slot) (p : Pattern) → entity_slot side p ≡ x → (e : RdfTerm) → AllByRecursion (Tied x e) (pattern_sols g side e p)
 first-tied g side x p q e = subst (λ (y : Slot). AllByRecursion (Tied y e) (pattern_sols g side e p)) q (sols-tied g side p e)
@@ -154,9 +148,9 @@ of_entity g side x ps e = required_of g side e ps (entity_sols x e)
 pub entities-leaf : (g : List RdfTriple) (side : SideName) → IsDistinct same_triple g → (x : Slot) (p : Pattern) (ps : List Pattern) → AllByRecursion (IsArm side x) (p ∷ ps) → SameBag (flat_map (of_entity g side x (p ∷ ps)) (terms_of g)) (leaf (p ∷ ps) g)
 entities-leaf g side d x p ps arms =
     same-trans (same-flat_map_at (of_entity g side x (p ∷ ps)) (λ e. required_of g side e ps (pattern_sols g side e p))
-        (λ e. same-required g side e ps (join (entity_sols x e) (pattern_sols g side e p)) (pattern_sols g side e p) (entity-first x e (pattern_sols g side e p) (first-tied g side x p arms.0.entity e))) (terms_of g))
+    (λ e. same-required g side e ps (join (entity_sols x e) (pattern_sols g side e p)) (pattern_sols g side e p) (entity-first x e (pattern_sols g side e p) (first-tied g side x p arms.0.entity e))) (terms_of g))
     (required-leaf g side d x ps (p ∷ []) arms.1 (λ e. pattern_sols g side e p) (first-tied g side x p arms.0.entity)
-        (same-trans (sols_of_all g side p) (same-sym (leaf_one p g d arms.0.below))))
+    (same-trans (sols_of_all g side p) (same-sym (leaf_one p g d arms.0.below))))
 
 -- ---- optional arms
 
@@ -178,11 +172,11 @@ optional-joins g side d x [] arms acc ms tied s = s
 optional-joins g side d x (p ∷ ps) arms acc ms tied s =
     let a = arms.0 in
     let one : (e : RdfTerm) → SameBag (left_join (λ m. true) (acc e) (pattern_sols g side e p)) (left_join (λ m. true) (acc e) (leaf (p ∷ []) g)) =
-        λ e. left-arm g side p e d a.below (acc e) (tied-at side x p e (acc e) a.entity (tied e)) in
+    λ e. left-arm g side p e d a.below (acc e) (tied-at side x p e (acc e) a.entity (tied e)) in
     optional-joins g side d x ps arms.1 (λ e. left_join (λ m. true) (acc e) (pattern_sols g side e p)) (left_join (λ m. true) ms (leaf (p ∷ []) g)) (λ e. left-tied x e (acc e) (pattern_sols g side e p) (tied e))
-        (same-trans (same-flat_map_at (λ e. left_join (λ m. true) (acc e) (pattern_sols g side e p)) (λ e. left_join (λ m. true) (acc e) (leaf (p ∷ []) g)) one (terms_of g))
-        (same-trans (left_join-flat_map acc (terms_of g) (leaf (p ∷ []) g))
-        (same-left_join (λ m. true) (flat_map acc (terms_of g)) ms (leaf (p ∷ []) g) (leaf (p ∷ []) g) s (same-refl (leaf (p ∷ []) g)))))
+    (same-trans (same-flat_map_at (λ e. left_join (λ m. true) (acc e) (pattern_sols g side e p)) (λ e. left_join (λ m. true) (acc e) (leaf (p ∷ []) g)) one (terms_of g))
+    (same-trans (left_join-flat_map acc (terms_of g) (leaf (p ∷ []) g))
+    (same-left_join (λ m. true) (flat_map acc (terms_of g)) ms (leaf (p ∷ []) g) (leaf (p ∷ []) g) s (same-refl (leaf (p ∷ []) g)))))
 
 -- ---- stars
 
@@ -200,6 +194,6 @@ both-left_joins g d x side [] optional n h r o = cc
 both-left_joins g d x side (a ∷ required) optional n h r o =
     let ps = map (arm_pattern x side) (a ∷ required) in
     subst (λ (ms : List Mapping). SameBag ms (left_joins g (leaf ps g) (map (arm_pattern x side) optional))) (sym (both-patterns g x side (a ∷ required) optional))
-        (optional-joins g side d x (map (arm_pattern x side) optional) (arms-are x side optional h o) (of_entity g side x ps) (leaf ps g)
-            (λ e. required-tied g side x e ps (entity_sols x e) (entity-tied x e))
-            (entities-leaf g side d x (arm_pattern x side a) (map (arm_pattern x side) required) (arms-are x side (a ∷ required) h r)))
+    (optional-joins g side d x (map (arm_pattern x side) optional) (arms-are x side optional h o) (of_entity g side x ps) (leaf ps g)
+    (λ e. required-tied g side x e ps (entity_sols x e) (entity-tied x e))
+    (entities-leaf g side d x (arm_pattern x side a) (map (arm_pattern x side) required) (arms-are x side (a ∷ required) h r)))

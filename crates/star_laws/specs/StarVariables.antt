@@ -1,22 +1,17 @@
 -- What every solution of a star binds.
-use Rattle.std.specs.Prelude.{◌≡◌, ℕ, zero, suc, ◌+◌, ◌<◌, ◌≤◌, ◌⊎◌, Bool, true, false, cond, not, if◌then◌else◌, ◌&&◌, ◌||◌, ◌==◌, List, [], ◌∷◌, ◌++◌, map, Option, Some, None, is_some, refl}
-use Rattle.std.proofs.Common.{sym, ap, ap₂, ◌∙◌, subst, arith, eqb, ltb, inl, inr}
-use Rattle.std.proofs.Math.Path.{fun_ext}
-use Rattle.std.proofs.lemmas.Bool.{eqb-true, eq-eqb, ne_eqb, and_parts, and_from, or_parts, or_cases, or_left, or_right, or_from, cases_Bool, lt-ltb, le-ltb, cases_eq, cases_lt, ltb-true, both_ways, false_from_ne_true, and_cases}
-use Rattle.std.specs.List.{list_any, list_all, flat_map, filter, AllByRecursion, IsDistinct}
-use Rattle.std.proofs.lemmas.List.Folds.{list_any-append}
-use Rattle.bags.specs.Bag.{total, SameBag}
-use Rattle.bags.specs.BagLaws.{total-same, total-each, total-plus, total-zero, total-cond, total-none, total-map, total-flat_map, total-filter, total-swap, total-append, same-refl, same-sym, same-trans, same-append, same-map, same-filter, same-flat_map, same-flat_map_each, each-append, each-map, each-flat_map, each-weaker, each-any, each-filter}
-use Rattle.rdf_meaning.specs.Terms.{RdfTerm, RdfTriple, same_term, same_triple}
-use Rattle.rdf_meaning.specs.TermLaws.{same_term-is, same_term-self, same_term_equiv, same_triple-self}
+use Rattle.std.specs.Prelude.{◌≡◌, ℕ, ◌<◌, ◌≤◌, ◌⊎◌, Bool, true, false, ◌&&◌, ◌||◌, ◌==◌, List, [], ◌∷◌, ◌++◌, Option, Some, None, is_some, refl}
+use Rattle.std.proofs.Common.{sym, ap, ◌∙◌, subst, arith, inl, inr}
+use Rattle.std.proofs.lemmas.Bool.{and_parts, and_from, or_cases, or_left, or_right, cases_Bool, ltb-true, both_ways}
+use Rattle.std.specs.List.{list_any, list_all, filter, AllByRecursion}
+use Rattle.bags.specs.BagLaws.{each-append, each-flat_map, each-weaker, each-any, each-filter}
+use Rattle.rdf_meaning.specs.Terms.{RdfTerm, RdfTriple, same_term}
 use Rattle.query_meaning.specs.declared.pattern.Slot.{Slot}
 use Rattle.query_meaning.specs.declared.pattern.Slot.TheVariants.{Var, Const}
 use Rattle.query_meaning.specs.declared.pattern.Pattern.{Pattern}
-use Rattle.query_meaning.specs.Mapping.{Mapping, nothing, set, width, agree, agree_below, compatible, either, merge}
-use Rattle.query_meaning.specs.Leaf.{with_term, terms_of, is_variable, in_pattern, choices, assignments, is_term, slot_is, instance_is, holds, leaf, bind_slot, bound, matches}
-use Rattle.query_meaning.specs.Eval.{join, or_alone, found, left_join}
-use Rattle.query_meaning.specs.Variables.{Variables, IsNarrow, Binds, IsOver, in_both, in_either}
-use Rattle.query_meaning.specs.Matches.{same_below, Match, matches_of, unmatched, IsCovered}
+use Rattle.query_meaning.specs.Mapping.{Mapping, nothing, set, width, merge}
+use Rattle.query_meaning.specs.Leaf.{terms_of, is_variable, in_pattern, instance_is, bound, matches}
+use Rattle.query_meaning.specs.Eval.{join, left_join}
+use Rattle.query_meaning.specs.Variables.{Variables, Binds, IsOver, in_either}
 use Rattle.rdf_terms.specs.declared.side.SideName.{SideName}
 use Rattle.rdf_terms.specs.declared.side.SideName.TheVariants.{Direct, Reverse}
 use Rattle.query_meaning.specs.Width.{pattern_in_width, slot_in_width}
@@ -24,15 +19,12 @@ use Rattle.plan_meaning.specs.declared.star.Arm.{Arm}
 use Rattle.plan_meaning.specs.declared.star.Star.{Star}
 use Rattle.plan_meaning.specs.declared.star.StarBody.{StarBody}
 use Rattle.plan_meaning.specs.declared.star.StarBody.TheVariants.{Both, Either}
-use Rattle.plan_meaning.specs.Stars.{entity_of, arm_pattern, arm_sols, entity_sols, with_required, with_optional, both_sols, body_sols, star_sols, stars_leaf, arm_variables, arms_variables, body_variables, star_variables, stars_variables, body_certain, star_certain, stars_certain, left_joins, arms_of, arm_in_width, star_in_width}
-use Rattle.algebra_laws.specs.MappingLaws.{agreed, set-same, set-other, none-is}
-use Rattle.algebra_laws.specs.Assignments.{terms-apart}
-use Rattle.algebra_laws.specs.OneLeaf.{leaf_one, pattern_below, bound-chosen, Chosen, total-one, total-matches, each-stands, Stands, is_term-some}
-use Rattle.algebra_laws.specs.Joins.{same-join, same-left_join, same-or_alone, total-joined, total-or_alone, total-found, join-nothing, join-assoc}
-use Rattle.algebra_laws.specs.LeavesJoin.{leaf_append, leaf_nothing}
+use Rattle.plan_meaning.specs.Stars.{entity_of, arm_pattern, arm_sols, entity_sols, with_required, with_optional, both_sols, body_sols, star_sols, stars_leaf, arm_variables, arms_variables, body_variables, star_variables, stars_variables, body_certain, star_certain, stars_certain, arms_of, arm_in_width, star_in_width}
+use Rattle.algebra_laws.specs.MappingLaws.{set-other, none-is}
+use Rattle.algebra_laws.specs.OneLeaf.{pattern_below, bound-chosen, Chosen, each-stands, Stands}
 use Rattle.algebra_laws.specs.TreeSolutions.{each-join, each-left_join, members, over-merge, binds-merge, binds-left}
 use Rattle.star_laws.specs.StarLeaves.{var-sols, arm_below}
-use Rattle.star_laws.specs.Entities.{entity_slot, pattern_sols, Tied, fitting, join-arm, left-arm, join-tied, left-tied, sols-tied, sols_of_all, join-flat_map, left_join-flat_map, same-flat_map_at}
+use Rattle.star_laws.specs.Entities.{pattern_sols}
 
 -- ---- what one triple binds
 
@@ -53,12 +45,14 @@ pattern_vars p v = in_pattern v p
 
 bound-over : (ts : List RdfTerm) (p : Pattern) (t : RdfTriple) → Stands ts t → pattern_in_width p ≡ true → IsOver (pattern_vars p) ts (bound p t)
 bound-over ts p t s below = record {
-    narrow = λ v l. narrow v l (cases_Bool (is_some (bound p t v)));
-    alone = λ v e. chosen-alone ts (in_pattern v p) (bound p t v) (chosen v) e;
-    known = λ v u e. chosen-known ts (in_pattern v p) (bound p t v) (chosen v) u e }
+  narrow = λ v l. narrow v l (cases_Bool (is_some (bound p t v)));
+  alone = λ v e. chosen-alone ts (in_pattern v p) (bound p t v) (chosen v) e;
+  known = λ v u e. chosen-known ts (in_pattern v p) (bound p t v) (chosen v) u e;
+}
   where
     chosen : (v : ℕ) → Chosen ts (in_pattern v p) (bound p t v)
     chosen v = bound-chosen ts p t s.s s.p s.o v
+
     narrow : (v : ℕ) → width ≤ v → (is_some (bound p t v) ≡ true) ⊎ (is_some (bound p t v) ≡ false) → bound p t v ≡ None
     narrow v l (inl e) = let m : v < width = pattern_below p below v (chosen-alone ts (in_pattern v p) (bound p t v) (chosen v) e) in absurd (omega arith)
     narrow v l (inr e) = none-is (bound p t v) e
@@ -76,8 +70,8 @@ each-matches P p t h = go (cases_Bool (instance_is (bound p t) p t))
 each-sols : (P : Mapping → Type 0) (g : List RdfTriple) (side : SideName) (e : RdfTerm) (p : Pattern) → ((t : RdfTriple) → Stands (terms_of g) t → P (bound p t)) → AllByRecursion P (pattern_sols g side e p)
 each-sols P g side e p f =
     each-flat_map P (matches p) (filter (λ t. same_term (entity_of side t) e) g)
-        (each-filter (λ t. AllByRecursion P (matches p t)) (λ t. same_term (entity_of side t) e) g
-            (each-weaker (Stands (terms_of g)) (λ t. AllByRecursion P (matches p t)) (λ t s. each-matches P p t (f t s)) g (each-stands g)))
+    (each-filter (λ t. AllByRecursion P (matches p t)) (λ t. same_term (entity_of side t) e) g
+    (each-weaker (Stands (terms_of g)) (λ t. AllByRecursion P (matches p t)) (λ t s. each-matches P p t (f t s)) g (each-stands g)))
 
 -- ---- more or fewer variables
 
@@ -101,6 +95,7 @@ entity-over (Const c) ts e w h = go (cases_Bool (same_term c e))
   where
     empty : IsOver (λ v. false) ts nothing
     empty = record { narrow = λ v l. refl; alone = λ v q. cc; known = λ v t q. cc }
+
     go : (same_term c e ≡ true) ⊎ (same_term c e ≡ false) → AllByRecursion (IsOver (λ v. false) ts) (entity_sols (Const c) e)
     go (inl f) = rw f (empty, tt)
     go (inr f) = rw f tt
@@ -109,9 +104,11 @@ entity-over (Var x) ts e w h = subst (λ (ms : List Mapping). AllByRecursion (Is
   where
     narrow : (v : ℕ) → width ≤ v → set x (Some e) nothing v ≡ None
     narrow v l = let b : x < width = ltb-true x width w in set-other x v (Some e) nothing (λ q. absurd (omega arith))
+
     alone : (v : ℕ) → ((v == x) ≡ true) ⊎ ((v == x) ≡ false) → is_some (set x (Some e) nothing v) ≡ true → (v == x) ≡ true
     alone v (inl k) q = k
     alone v (inr k) q = let n : is_some (set x (Some e) nothing v) ≡ false = rw k refl in absurd (both_ways (is_some (set x (Some e) nothing v)) n q)
+
     known : (v : ℕ) (t : RdfTerm) → ((v == x) ≡ true) ⊎ ((v == x) ≡ false) → set x (Some e) nothing v ≡ Some t → list_any (same_term t) ts ≡ true
     known v t (inl k) q = let s : Some e ≡ Some t = rw k at q in let same : e ≡ t = cc in subst (λ (u : RdfTerm). list_any (same_term u) ts ≡ true) same h
     known v t (inr k) q = let s : None ≡ Some t = rw k at q in cc
@@ -137,6 +134,7 @@ arm-in x Reverse a v e = go (or_cases (is_variable v a.value) (is_variable v a.p
     late : (is_variable v a.pred ≡ true) ⊎ (is_variable v x ≡ true) → (is_variable v x || (is_variable v a.pred || is_variable v a.value)) ≡ true
     late (inl h) = or_right (is_variable v x) (is_variable v a.pred || is_variable v a.value) (or_left (is_variable v a.pred) (is_variable v a.value) h)
     late (inr h) = or_left (is_variable v x) (is_variable v a.pred || is_variable v a.value) h
+
     go : (is_variable v a.value ≡ true) ⊎ ((is_variable v a.pred || is_variable v x) ≡ true) → (is_variable v x || (is_variable v a.pred || is_variable v a.value)) ≡ true
     go (inl h) = or_right (is_variable v x) (is_variable v a.pred || is_variable v a.value) (or_right (is_variable v a.pred) (is_variable v a.value) h)
     go (inr h) = late (or_cases (is_variable v a.pred) (is_variable v x) h)
@@ -152,13 +150,13 @@ in-arm x Reverse a v e = go (or_cases (is_variable v a.pred) (is_variable v a.va
 arm-over : (vs : Variables) (g : List RdfTriple) (side : SideName) (e : RdfTerm) (x : Slot) (a : Arm) → slot_in_width x ≡ true → arm_in_width a ≡ true → ((v : ℕ) → (is_variable v x || arm_variables a v) ≡ true → vs v ≡ true) → AllByRecursion (IsOver vs (terms_of g)) (arm_sols g side e x a)
 arm-over vs g side e x a w k f =
     each-sols (IsOver vs (terms_of g)) g side e (arm_pattern x side a)
-        (λ t s. over-more (pattern_vars (arm_pattern x side a)) vs (terms_of g) (λ v h. f v (arm-in x side a v h)) (bound (arm_pattern x side a) t)
-            (bound-over (terms_of g) (arm_pattern x side a) t s (arm_below x side a w k)))
+    (λ t s. over-more (pattern_vars (arm_pattern x side a)) vs (terms_of g) (λ v h. f v (arm-in x side a v h)) (bound (arm_pattern x side a) t)
+    (bound-over (terms_of g) (arm_pattern x side a) t s (arm_below x side a w k)))
 
 arm-binds : (g : List RdfTriple) (side : SideName) (e : RdfTerm) (x : Slot) (a : Arm) → AllByRecursion (Binds (arm_variables a)) (arm_sols g side e x a)
 arm-binds g side e x a =
     each-sols (Binds (arm_variables a)) g side e (arm_pattern x side a)
-        (λ t s. binds-less (pattern_vars (arm_pattern x side a)) (arm_variables a) (λ v h. in-arm x side a v h) (bound (arm_pattern x side a) t) (bound-binds (terms_of g) (arm_pattern x side a) t s))
+    (λ t s. binds-less (pattern_vars (arm_pattern x side a)) (arm_variables a) (λ v h. in-arm x side a v h) (bound (arm_pattern x side a) t) (bound-binds (terms_of g) (arm_pattern x side a) t s))
 
 -- ---- stars: what all solutions are over
 
@@ -178,13 +176,15 @@ arms-over : (vs : Variables) (g : List RdfTriple) (side : SideName) (e : RdfTerm
     AllByRecursion (λ a. AllByRecursion (IsOver vs (terms_of g)) (arm_sols g side e x a)) arms
 arms-over vs g side e x [] w k f = tt
 arms-over vs g side e x (a ∷ arms) w k f =
-    let h = and_parts (arm_in_width a) (list_all arm_in_width arms) k in
-    (arm-over vs g side e x a w h.0 (λ v q. f v (first v (or_cases (is_variable v x) (arm_variables a v) q))),
-     arms-over vs g side e x arms w h.1 (λ v q. f v (rest v (or_cases (is_variable v x) (arms_variables arms v) q))))
+    let h = and_parts (arm_in_width a) (list_all arm_in_width arms) k in (
+      arm-over vs g side e x a w h.0 (λ v q. f v (first v (or_cases (is_variable v x) (arm_variables a v) q))),
+      arms-over vs g side e x arms w h.1 (λ v q. f v (rest v (or_cases (is_variable v x) (arms_variables arms v) q))),
+    )
   where
     first : (v : ℕ) → (is_variable v x ≡ true) ⊎ (arm_variables a v ≡ true) → (is_variable v x || (arm_variables a v || arms_variables arms v)) ≡ true
     first v (inl q) = or_left (is_variable v x) (arm_variables a v || arms_variables arms v) q
     first v (inr q) = or_right (is_variable v x) (arm_variables a v || arms_variables arms v) (or_left (arm_variables a v) (arms_variables arms v) q)
+
     rest : (v : ℕ) → (is_variable v x ≡ true) ⊎ (arms_variables arms v ≡ true) → (is_variable v x || (arm_variables a v || arms_variables arms v)) ≡ true
     rest v (inl q) = or_left (is_variable v x) (arm_variables a v || arms_variables arms v) q
     rest v (inr q) = or_right (is_variable v x) (arm_variables a v || arms_variables arms v) (or_right (arm_variables a v) (arms_variables arms v) q)
@@ -193,15 +193,16 @@ both-over : (vs : Variables) (g : List RdfTriple) (x : Slot) (side : SideName) (
     ((v : ℕ) → (is_variable v x || (arms_variables required v || arms_variables optional v)) ≡ true → vs v ≡ true) → AllByRecursion (IsOver vs (terms_of g)) (both_sols g x side required optional)
 both-over vs g x side required optional w r o f =
     each-flat_map (IsOver vs (terms_of g)) (λ e. with_optional g side e x optional (with_required g side e x required (entity_sols x e))) (terms_of g)
-        (each-weaker (λ e. list_any (same_term e) (terms_of g) ≡ true) (λ e. AllByRecursion (IsOver vs (terms_of g)) (with_optional g side e x optional (with_required g side e x required (entity_sols x e)))) (λ e h.
-            optional-each (IsOver vs (terms_of g)) (over-closed vs (terms_of g)) g side e x optional (with_required g side e x required (entity_sols x e)) (arms-over vs g side e x optional w o (λ v q. f v (inner v (or_cases (is_variable v x) (arms_variables optional v) q))))
-            (required-each (IsOver vs (terms_of g)) (over-closed vs (terms_of g)) g side e x required (entity_sols x e) (arms-over vs g side e x required w r (λ v q. f v (outer v (or_cases (is_variable v x) (arms_variables required v) q))))
-                (each-weaker (IsOver (λ v. is_variable v x) (terms_of g)) (IsOver vs (terms_of g)) (over-more (λ v. is_variable v x) vs (terms_of g) (λ v q. f v (or_left (is_variable v x) (arms_variables required v || arms_variables optional v) q))) (entity_sols x e) (entity-over x (terms_of g) e w h))))
-            (terms_of g) (members (terms_of g)))
+    (each-weaker (λ e. list_any (same_term e) (terms_of g) ≡ true) (λ e. AllByRecursion (IsOver vs (terms_of g)) (with_optional g side e x optional (with_required g side e x required (entity_sols x e)))) (λ e h.
+    optional-each (IsOver vs (terms_of g)) (over-closed vs (terms_of g)) g side e x optional (with_required g side e x required (entity_sols x e)) (arms-over vs g side e x optional w o (λ v q. f v (inner v (or_cases (is_variable v x) (arms_variables optional v) q))))
+    (required-each (IsOver vs (terms_of g)) (over-closed vs (terms_of g)) g side e x required (entity_sols x e) (arms-over vs g side e x required w r (λ v q. f v (outer v (or_cases (is_variable v x) (arms_variables required v) q))))
+    (each-weaker (IsOver (λ v. is_variable v x) (terms_of g)) (IsOver vs (terms_of g)) (over-more (λ v. is_variable v x) vs (terms_of g) (λ v q. f v (or_left (is_variable v x) (arms_variables required v || arms_variables optional v) q))) (entity_sols x e) (entity-over x (terms_of g) e w h))))
+    (terms_of g) (members (terms_of g)))
   where
     outer : (v : ℕ) → (is_variable v x ≡ true) ⊎ (arms_variables required v ≡ true) → (is_variable v x || (arms_variables required v || arms_variables optional v)) ≡ true
     outer v (inl q) = or_left (is_variable v x) (arms_variables required v || arms_variables optional v) q
     outer v (inr q) = or_right (is_variable v x) (arms_variables required v || arms_variables optional v) (or_left (arms_variables required v) (arms_variables optional v) q)
+
     inner : (v : ℕ) → (is_variable v x ≡ true) ⊎ (arms_variables optional v ≡ true) → (is_variable v x || (arms_variables required v || arms_variables optional v)) ≡ true
     inner v (inl q) = or_left (is_variable v x) (arms_variables required v || arms_variables optional v) q
     inner v (inr q) = or_right (is_variable v x) (arms_variables required v || arms_variables optional v) (or_right (arms_variables required v) (arms_variables optional v) q)
@@ -221,15 +222,17 @@ body-over g x side (Either left right) w k =
     let h = all-append arm_in_width left right k in
     let vs : Variables = λ v. is_variable v x || (arms_variables left v || arms_variables right v) in
     each-append (IsOver vs (terms_of g)) (both_sols g x side left []) (both_sols g x side right [])
-        (both-over vs g x side left [] w h.0 refl (λ v q. first v (or_cases (is_variable v x) (arms_variables left v || false) q)))
-        (both-over vs g x side right [] w h.1 refl (λ v q. second v (or_cases (is_variable v x) (arms_variables right v || false) q)))
+    (both-over vs g x side left [] w h.0 refl (λ v q. first v (or_cases (is_variable v x) (arms_variables left v || false) q)))
+    (both-over vs g x side right [] w h.1 refl (λ v q. second v (or_cases (is_variable v x) (arms_variables right v || false) q)))
   where
     no : (b : Bool) → (b || false) ≡ true → b ≡ true
     no true e = refl
     no false e = cc
+
     first : (v : ℕ) → (is_variable v x ≡ true) ⊎ ((arms_variables left v || false) ≡ true) → (is_variable v x || (arms_variables left v || arms_variables right v)) ≡ true
     first v (inl q) = or_left (is_variable v x) (arms_variables left v || arms_variables right v) q
     first v (inr q) = or_right (is_variable v x) (arms_variables left v || arms_variables right v) (or_left (arms_variables left v) (arms_variables right v) (no (arms_variables left v) q))
+
     second : (v : ℕ) → (is_variable v x ≡ true) ⊎ ((arms_variables right v || false) ≡ true) → (is_variable v x || (arms_variables left v || arms_variables right v)) ≡ true
     second v (inl q) = or_left (is_variable v x) (arms_variables left v || arms_variables right v) q
     second v (inr q) = or_right (is_variable v x) (arms_variables left v || arms_variables right v) (or_right (arms_variables left v) (arms_variables right v) (no (arms_variables right v) q))
@@ -244,7 +247,7 @@ stars-over g [] e = (record { narrow = λ v l. refl; alone = λ v q. cc; known =
 stars-over g (star ∷ stars) e =
     let h = and_parts (star_in_width star) (list_all star_in_width stars) e in
     each-join (IsOver (star_variables star) (terms_of g)) (IsOver (stars_variables stars) (terms_of g)) (IsOver (stars_variables (star ∷ stars)) (terms_of g))
-        (λ a b p q. over-merge (star_variables star) (stars_variables stars) (terms_of g) a b p q) (star_sols g star) (stars_leaf g stars) (star-over g star h.0) (stars-over g stars h.1)
+    (λ a b p q. over-merge (star_variables star) (stars_variables stars) (terms_of g) a b p q) (star_sols g star) (stars_leaf g stars) (star-over g star h.0) (stars-over g stars h.1)
 
 -- ---- stars: what all solutions bind
 
@@ -256,10 +259,10 @@ required-binds vs g side e x [] ms all = each-weaker (Binds vs) (Binds (in_eithe
     no false q = cc
 required-binds vs g side e x (a ∷ arms) ms all =
     each-weaker (Binds (in_either (in_either vs (arm_variables a)) (arms_variables arms))) (Binds (in_either vs (arms_variables (a ∷ arms))))
-        (binds-less (in_either (in_either vs (arm_variables a)) (arms_variables arms)) (in_either vs (arms_variables (a ∷ arms))) (λ v q. regroup (vs v) (arm_variables a v) (arms_variables arms v) q))
-        (with_required g side e x arms (join ms (arm_sols g side e x a)))
-        (required-binds (in_either vs (arm_variables a)) g side e x arms (join ms (arm_sols g side e x a))
-            (each-join (Binds vs) (Binds (arm_variables a)) (Binds (in_either vs (arm_variables a))) (λ m b p q. binds-merge vs (arm_variables a) m b p q) ms (arm_sols g side e x a) all (arm-binds g side e x a)))
+    (binds-less (in_either (in_either vs (arm_variables a)) (arms_variables arms)) (in_either vs (arms_variables (a ∷ arms))) (λ v q. regroup (vs v) (arm_variables a v) (arms_variables arms v) q))
+    (with_required g side e x arms (join ms (arm_sols g side e x a)))
+    (required-binds (in_either vs (arm_variables a)) g side e x arms (join ms (arm_sols g side e x a))
+    (each-join (Binds vs) (Binds (arm_variables a)) (Binds (in_either vs (arm_variables a))) (λ m b p q. binds-merge vs (arm_variables a) m b p q) ms (arm_sols g side e x a) all (arm-binds g side e x a)))
   where
     regroup : (p q r : Bool) → (p || (q || r)) ≡ true → ((p || q) || r) ≡ true
     regroup true q r h = refl
@@ -269,26 +272,27 @@ optional-binds : (vs : Variables) (g : List RdfTriple) (side : SideName) (e : Rd
 optional-binds vs g side e x [] ms all = all
 optional-binds vs g side e x (a ∷ arms) ms all =
     optional-binds vs g side e x arms (left_join (λ m. true) ms (arm_sols g side e x a))
-        (each-left_join (Binds vs) (Binds (arm_variables a)) (Binds vs) (λ m. true) (λ m b p q. binds-left vs m b p) (λ m h. h) ms (arm_sols g side e x a) all (arm-binds g side e x a))
+    (each-left_join (Binds vs) (Binds (arm_variables a)) (Binds vs) (λ m. true) (λ m b p q. binds-left vs m b p) (λ m h. h) ms (arm_sols g side e x a) all (arm-binds g side e x a))
 
 both-binds : (g : List RdfTriple) (x : Slot) (side : SideName) (required optional : List Arm) → AllByRecursion (Binds (λ v. is_variable v x || arms_variables required v)) (both_sols g x side required optional)
 both-binds g x side required optional =
     let vs : Variables = λ v. is_variable v x || arms_variables required v in
     each-flat_map (Binds vs) (λ e. with_optional g side e x optional (with_required g side e x required (entity_sols x e))) (terms_of g)
-        (each-any (λ e. AllByRecursion (Binds vs) (with_optional g side e x optional (with_required g side e x required (entity_sols x e))))
-            (λ e. optional-binds vs g side e x optional (with_required g side e x required (entity_sols x e)) (required-binds (λ v. is_variable v x) g side e x required (entity_sols x e) (entity-binds x e))) (terms_of g))
+    (each-any (λ e. AllByRecursion (Binds vs) (with_optional g side e x optional (with_required g side e x required (entity_sols x e))))
+    (λ e. optional-binds vs g side e x optional (with_required g side e x required (entity_sols x e)) (required-binds (λ v. is_variable v x) g side e x required (entity_sols x e) (entity-binds x e))) (terms_of g))
 
 body-binds : (g : List RdfTriple) (x : Slot) (side : SideName) (body : StarBody) → AllByRecursion (Binds (λ v. is_variable v x || body_certain body v)) (body_sols g x side body)
 body-binds g x side (Both required optional) = both-binds g x side required optional
 body-binds g x side (Either left right) =
     let vs : Variables = λ v. is_variable v x || (arms_variables left v && arms_variables right v) in
     each-append (Binds vs) (both_sols g x side left []) (both_sols g x side right [])
-        (each-weaker (Binds (λ v. is_variable v x || arms_variables left v)) (Binds vs) (binds-less (λ v. is_variable v x || arms_variables left v) vs (λ v q. first v (or_cases (is_variable v x) (arms_variables left v && arms_variables right v) q))) (both_sols g x side left []) (both-binds g x side left []))
-        (each-weaker (Binds (λ v. is_variable v x || arms_variables right v)) (Binds vs) (binds-less (λ v. is_variable v x || arms_variables right v) vs (λ v q. second v (or_cases (is_variable v x) (arms_variables left v && arms_variables right v) q))) (both_sols g x side right []) (both-binds g x side right []))
+    (each-weaker (Binds (λ v. is_variable v x || arms_variables left v)) (Binds vs) (binds-less (λ v. is_variable v x || arms_variables left v) vs (λ v q. first v (or_cases (is_variable v x) (arms_variables left v && arms_variables right v) q))) (both_sols g x side left []) (both-binds g x side left []))
+    (each-weaker (Binds (λ v. is_variable v x || arms_variables right v)) (Binds vs) (binds-less (λ v. is_variable v x || arms_variables right v) vs (λ v q. second v (or_cases (is_variable v x) (arms_variables left v && arms_variables right v) q))) (both_sols g x side right []) (both-binds g x side right []))
   where
     first : (v : ℕ) → (is_variable v x ≡ true) ⊎ ((arms_variables left v && arms_variables right v) ≡ true) → (is_variable v x || arms_variables left v) ≡ true
     first v (inl q) = or_left (is_variable v x) (arms_variables left v) q
     first v (inr q) = or_right (is_variable v x) (arms_variables left v) (and_parts (arms_variables left v) (arms_variables right v) q).0
+
     second : (v : ℕ) → (is_variable v x ≡ true) ⊎ ((arms_variables left v && arms_variables right v) ≡ true) → (is_variable v x || arms_variables right v) ≡ true
     second v (inl q) = or_left (is_variable v x) (arms_variables right v) q
     second v (inr q) = or_right (is_variable v x) (arms_variables right v) (and_parts (arms_variables left v) (arms_variables right v) q).1
@@ -302,4 +306,4 @@ pub stars-bind : (g : List RdfTriple) (stars : List Star) → AllByRecursion (Bi
 stars-bind g [] = (record { bound = λ v l q. cc }, tt)
 stars-bind g (star ∷ stars) =
     each-join (Binds (star_certain star)) (Binds (stars_certain stars)) (Binds (stars_certain (star ∷ stars)))
-        (λ a b p q. binds-merge (star_certain star) (stars_certain stars) a b p q) (star_sols g star) (stars_leaf g stars) (star-binds g star) (stars-bind g stars)
+    (λ a b p q. binds-merge (star_certain star) (stars_certain stars) a b p q) (star_sols g star) (stars_leaf g stars) (star-binds g star) (stars-bind g stars)

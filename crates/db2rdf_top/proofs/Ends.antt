@@ -4,67 +4,99 @@ use Rattle.std.specs.Prelude.{Option, Some, None, Result, Ok, Err, IfSome, IsOk,
 use Rattle.line_meaning.specs.declared.change.Change.{Change}
 use Rattle.store_io.specs.Causes.{Rose}
 use Rattle.run_meaning.specs.declared.status.Status.{Status}
-use Rattle.run_meaning.specs.declared.status.Status.TheVariants.{Done, Usage, ReadFault, WriteFault, NotYet, NoMemory}
-use Rattle.run_meaning.specs.Words.{Command}
-use Rattle.run_meaning.specs.Outcome.{Contents, Work, judged_data, judged_query, outcome, WhereTold}
+use Rattle.run_meaning.specs.declared.status.Status.TheVariants.{Done, Usage, BadData, Limit, ReadFault, WriteFault, NotYet, NoMemory}
+use Rattle.run_meaning.specs.Outcome.{Contents, Files, Work, judged_data, judged_query, judged_work, outcome, WhereTold}
 use Rattle.run_meaning.specs.FittingText.{Fits, FitsFront}
 use Rattle.run_meaning.specs.Causes.{Faults, Says, Completes, CouldNotRead}
 use Rattle.db2rdf_top.specs.Stops.{Stops, Puts, NamesSomething}
 
--- nothing is asked where the query is not read
-not_asked : (d q : Option (List ℕ)) (changes : List Change) → IfSome d (λ t. judged_data t ≡ Ok changes) → IfSome q (λ t. judged_query t ≡ Err NotYet) → IfSome d (λ t. IfSome q (λ u. outcome t u ≡ Err NotYet))
-not_asked None q changes f p = tt
-not_asked (Some t) None changes f p = tt
-not_asked (Some t) (Some u) changes f p = rw (f, p) refl
+-- a data file that is refused
+data_refused : (d q : Option (List ℕ)) (status : Status) → IfSome d (λ t. judged_data t ≡ Err status) → IfSome d (λ t. IfSome q (λ u. outcome t u ≡ Err status))
+data_refused None q status f = tt
+data_refused (Some t) None status f = tt
+data_refused (Some t) (Some u) status f = rw f refl
+
+-- a query file that is refused
+query_refused : (d q : Option (List ℕ)) (changes : List Change) (status : Status) → IfSome d (λ t. judged_data t ≡ Ok changes) → IfSome q (λ t. judged_query t ≡ Err status)
+    → IfSome d (λ t. IfSome q (λ u. outcome t u ≡ Err status))
+query_refused None q changes status f p = tt
+query_refused (Some t) None changes status f p = tt
+query_refused (Some t) (Some u) changes status f p = rw (f, p) refl
 
 accepted : (d : Option (List ℕ)) (changes : List Change) → IfSome d (λ t. judged_data t ≡ Ok changes) → IfSome d (λ t. IsOk (judged_data t))
 accepted None changes f = tt
 accepted (Some t) changes f = rw f refl
 
+-- the data file stopped the run
+pub data_stops : (status : Status) (f : Files) (contents : Contents) (before after : List ℕ → ℕ) (out : Option (List ℕ)) (count : ℕ)
+    → Stops status f.data_name (λ s. IfSome (contents f.data_name) (λ d. judged_data d ≡ Err s)) (before f.data_name) (after f.data_name)
+    → Says status (Ok f) contents (record { before = before; after = after; out_before = count; out_after = count }) out out
+data_stops NoMemory f contents before after out count s = refl
+data_stops NotYet f contents before after out count s = (data_refused (contents f.data_name) (contents f.query_name) NotYet s, refl)
+data_stops (BadData line) f contents before after out count s = (data_refused (contents f.data_name) (contents f.query_name) (BadData line) s, refl)
+data_stops (Limit which) f contents before after out count s = (data_refused (contents f.data_name) (contents f.query_name) (Limit which) s, refl)
+data_stops (ReadFault name) f contents before after out count s =
+    let P : List ℕ → Type 0 = λ m. before m < after m in ((subst P (sym s.0) s.1, inl s.0), refl)
+data_stops Done f contents before after out count s = absurd s
+data_stops Usage f contents before after out count s = absurd s
+data_stops WriteFault f contents before after out count s = absurd s
+
 -- the query file stopped the run
-pub query_stops : (status : Status) (c : Command) (contents : Contents) (before middle after : List ℕ → ℕ) (out : Option (List ℕ)) (count : ℕ) (changes : List Change)
-    → IfSome (contents c.data_name) (λ d. judged_data d ≡ Ok changes)
-    → Stops status c.query_name (IfSome (contents c.query_name) (λ q. judged_query q ≡ Err NotYet)) (middle c.query_name) (after c.query_name)
-    → before c.query_name ≤ middle c.query_name
-    → Says status (Some c) contents (record { before = before; after = after; out_before = count; out_after = count }) out out
-query_stops NoMemory c contents before middle after out count changes f s le = refl
-query_stops NotYet c contents before middle after out count changes f s le = (not_asked (contents c.data_name) (contents c.query_name) changes f s, refl)
-query_stops (ReadFault name) c contents before middle after out count changes f s le =
+pub query_stops : (status : Status) (f : Files) (contents : Contents) (before middle after : List ℕ → ℕ) (out : Option (List ℕ)) (count : ℕ) (changes : List Change)
+    → IfSome (contents f.data_name) (λ d. judged_data d ≡ Ok changes)
+    → Stops status f.query_name (λ s. IfSome (contents f.query_name) (λ q. judged_query q ≡ Err s)) (middle f.query_name) (after f.query_name)
+    → before f.query_name ≤ middle f.query_name
+    → Says status (Ok f) contents (record { before = before; after = after; out_before = count; out_after = count }) out out
+query_stops NoMemory f contents before middle after out count changes d s le = refl
+query_stops NotYet f contents before middle after out count changes d s le = (query_refused (contents f.data_name) (contents f.query_name) changes NotYet d s, refl)
+query_stops (BadData line) f contents before middle after out count changes d s le = (query_refused (contents f.data_name) (contents f.query_name) changes (BadData line) d s, refl)
+query_stops (Limit which) f contents before middle after out count changes d s le = (query_refused (contents f.data_name) (contents f.query_name) changes (Limit which) d s, refl)
+query_stops (ReadFault name) f contents before middle after out count changes d s le =
     let P : List ℕ → Type 0 = λ m. before m < after m in
-    let here : before c.query_name < after c.query_name = omega (arith, s.1) in
-    ((subst P (sym s.0) here, inr (s.0, accepted (contents c.data_name) changes f)), refl)
-query_stops Done c contents before middle after out count changes f s le = absurd s
-query_stops Usage c contents before middle after out count changes f s le = absurd s
-query_stops WriteFault c contents before middle after out count changes f s le = absurd s
+    let here : before f.query_name < after f.query_name = omega (arith, s.1) in
+    ((subst P (sym s.0) here, inr (s.0, accepted (contents f.data_name) changes d)), refl)
+query_stops Done f contents before middle after out count changes d s le = absurd s
+query_stops Usage f contents before middle after out count changes d s le = absurd s
+query_stops WriteFault f contents before middle after out count changes d s le = absurd s
 
--- both files were accepted
-asked : (d q : Option (List ℕ)) (work : Work) (P : Work → Type 0) → IfSome d (λ t. judged_data t ≡ Ok work.changes) → IfSome q (λ t. judged_query t ≡ Ok work.query) → P work
-    → IfSome d (λ t. IfSome q (λ u. IsOkAnd (outcome t u) P))
-asked None q work P f p h = tt
-asked (Some t) None work P f p h = tt
-asked (Some t) (Some u) work P f p h = rw (f, p) h
+-- both files were accepted, and the work is within the limits
+asked : (d q : Option (List ℕ)) (work : Work) (P : Work → Type 0) → IfSome d (λ t. judged_data t ≡ Ok work.changes) → IfSome q (λ t. judged_query t ≡ Ok work.query)
+    → judged_work work ≡ Ok work → P work → IfSome d (λ t. IfSome q (λ u. IsOkAnd (outcome t u) P))
+asked None q work P f p j h = tt
+asked (Some t) None work P f p j h = tt
+asked (Some t) (Some u) work P f p j h = rw (f, p, j) h
 
--- the answer was put
-pub put_says : (status : Status) (c : Command) (contents : Contents) (faults : Faults) (old new : Option (List ℕ)) (work : Work)
-    → IfSome (contents c.data_name) (λ d. judged_data d ≡ Ok work.changes) → IfSome (contents c.query_name) (λ q. judged_query q ≡ Ok work.query)
-    → Puts status work old new faults.out_before faults.out_after → Says status (Some c) contents faults old new
-put_says Done c contents faults old new work f p h = asked (contents c.data_name) (contents c.query_name) work (λ w. Fits w old new) f p h
-put_says WriteFault c contents faults old new work f p h = (asked (contents c.data_name) (contents c.query_name) work (λ w. FitsFront w old new) f p h.0, h.1)
-put_says NoMemory c contents faults old new work f p h = h
-put_says Usage c contents faults old new work f p h = absurd h
-put_says NotYet c contents faults old new work f p h = absurd h
-put_says (ReadFault name) c contents faults old new work f p h = absurd h
+work_refused : (d q : Option (List ℕ)) (work : Work) (status : Status) → IfSome d (λ t. judged_data t ≡ Ok work.changes) → IfSome q (λ t. judged_query t ≡ Ok work.query)
+    → judged_work work ≡ Err status → IfSome d (λ t. IfSome q (λ u. outcome t u ≡ Err status))
+work_refused None q work status f p j = tt
+work_refused (Some t) None work status f p j = tt
+work_refused (Some t) (Some u) work status f p j = rw (f, p) j
 
--- a line with a name may want memory
-pub ends : (status result : Status) (command : Option Command) (contents : Contents) (faults : Faults) (old new : Option (List ℕ))
-    → Says status command contents faults old new → (result ≡ status) ⊎ (NamesSomething status × (result ≡ NoMemory)) → Says result command contents faults old new
-ends status result command contents faults old new s (inl e) = rw e s
-ends (ReadFault name) result command contents faults old new s (inr e) = rw e.1 s.1
-ends Done result command contents faults old new s (inr e) = absurd e.0
-ends Usage result command contents faults old new s (inr e) = absurd e.0
-ends WriteFault result command contents faults old new s (inr e) = absurd e.0
-ends NotYet result command contents faults old new s (inr e) = absurd e.0
-ends NoMemory result command contents faults old new s (inr e) = absurd e.0
+-- the answer was put, or a limit was passed
+pub put_says : (status : Status) (f : Files) (contents : Contents) (faults : Faults) (old new : Option (List ℕ)) (work : Work)
+    → IfSome (contents f.data_name) (λ d. judged_data d ≡ Ok work.changes) → IfSome (contents f.query_name) (λ q. judged_query q ≡ Ok work.query)
+    → Puts status work old new faults.out_before faults.out_after → Says status (Ok f) contents faults old new
+put_says Done f contents faults old new work d q h = asked (contents f.data_name) (contents f.query_name) work (λ w. Fits w old new) d q h.0 h.1
+put_says WriteFault f contents faults old new work d q h = (asked (contents f.data_name) (contents f.query_name) work (λ w. FitsFront w old new) d q h.0 h.1, h.2)
+put_says (Limit which) f contents faults old new work d q h = (work_refused (contents f.data_name) (contents f.query_name) work (Limit which) d q h.0, h.1)
+put_says NoMemory f contents faults old new work d q h = h
+put_says (BadData line) f contents faults old new work d q h = absurd h
+put_says Usage f contents faults old new work d q h = absurd h
+put_says NotYet f contents faults old new work d q h = absurd h
+put_says (ReadFault name) f contents faults old new work d q h = absurd h
+
+-- a line that is made may want memory
+pub ends : (status result : Status) (files : Result Files Status) (contents : Contents) (faults : Faults) (old new : Option (List ℕ))
+    → Says status files contents faults old new → (result ≡ status) ⊎ (NamesSomething status × (result ≡ NoMemory)) → Says result files contents faults old new
+ends status result files contents faults old new s (inl e) = rw e s
+ends (ReadFault name) result files contents faults old new s (inr e) = rw e.1 s.1
+ends (BadData line) result files contents faults old new s (inr e) = rw e.1 s.1
+ends (Limit which) result files contents faults old new s (inr e) = rw e.1 s.1
+ends Done result files contents faults old new s (inr e) = absurd e.0
+ends Usage result files contents faults old new s (inr e) = absurd e.0
+ends WriteFault result files contents faults old new s (inr e) = absurd e.0
+ends NotYet result files contents faults old new s (inr e) = absurd e.0
+ends NoMemory result files contents faults old new s (inr e) = absurd e.0
 
 -- what is owed by a status, for one outcome
 abbrev Owed : Status → Faults → Result Work Status → Type 0
@@ -106,22 +138,29 @@ still faults name other lt e s =
     let P : List ℕ → Type 0 = λ m. faults.before m < faults.after m in
     let l : faults.before other < faults.after other = subst P e lt in omega arith
 
-neither : (faults : Faults) (name : List ℕ) (c : Command) (X : Type 0) → faults.before name < faults.after name → (name ≡ c.data_name) ⊎ ((name ≡ c.query_name) × X)
-    → faults.after c.data_name ≡ faults.before c.data_name → faults.after c.query_name ≡ faults.before c.query_name → ⊥
-neither faults name c X lt (inl e) d q = still faults name c.data_name lt e d
-neither faults name c X lt (inr e) d q = still faults name c.query_name lt e.0 q
+neither : (faults : Faults) (name : List ℕ) (f : Files) (X : Type 0) → faults.before name < faults.after name → (name ≡ f.data_name) ⊎ ((name ≡ f.query_name) × X)
+    → faults.after f.data_name ≡ faults.before f.data_name → faults.after f.query_name ≡ faults.before f.query_name → ⊥
+neither faults name f X lt (inl e) d q = still faults name f.data_name lt e d
+neither faults name f X lt (inr e) d q = still faults name f.query_name lt e.0 q
+
+refused : (status : Status) (f : Files) (contents : Contents) (faults : Faults) → WhereTold contents f (λ d q. outcome d q ≡ Err status) → Completes status (Ok f) contents faults
+refused status f contents faults s = λ _. both (contents f.data_name) (contents f.query_name) _ (λ d q. Owed status faults (outcome d q)) (λ d q h. refusal_owed (outcome d q) status faults h) s
 
 -- each status that is not owed has its cause
-pub completes : (status : Status) (command : Option Command) (contents : Contents) (faults : Faults) (old new : Option (List ℕ))
-    → Says status command contents faults old new → Completes status command contents faults
-completes Usage command contents faults old new s = rw s.0 (inl refl)
-completes NoMemory None contents faults old new s = inr refl
-completes NoMemory (Some c) contents faults old new s = λ _. every (contents c.data_name) (contents c.query_name) (λ d q. Owed NoMemory faults (outcome d q)) (λ d q. memory_owed (outcome d q) faults)
-completes Done None contents faults old new s = absurd s
-completes Done (Some c) contents faults old new s = λ _. both (contents c.data_name) (contents c.query_name) _ (λ d q. Owed Done faults (outcome d q)) (λ d q h. done_owed (outcome d q) (λ work. Fits work old new) faults h) s
-completes NotYet None contents faults old new s = absurd s.0
-completes NotYet (Some c) contents faults old new s = λ _. both (contents c.data_name) (contents c.query_name) _ (λ d q. Owed NotYet faults (outcome d q)) (λ d q h. refusal_owed (outcome d q) NotYet faults h) s.0
-completes WriteFault None contents faults old new s = absurd s.0
-completes WriteFault (Some c) contents faults old new s = λ _. both (contents c.data_name) (contents c.query_name) _ (λ d q. Owed WriteFault faults (outcome d q)) (λ d q h. write_owed (outcome d q) (λ work. FitsFront work old new) faults h s.1) s.0
-completes (ReadFault name) None contents faults old new s = absurd s.0
-completes (ReadFault name) (Some c) contents faults old new s = λ none. absurd (neither faults name c _ s.0.0 s.0.1 none.0 none.1)
+pub completes : (status : Status) (files : Result Files Status) (contents : Contents) (faults : Faults) (old new : Option (List ℕ))
+    → Says status files contents faults old new → Completes status files contents faults
+completes Usage files contents faults old new s = rw s.0 (inl refl)
+completes NoMemory (Err owed) contents faults old new s = inr refl
+completes NoMemory (Ok f) contents faults old new s = λ _. every (contents f.data_name) (contents f.query_name) (λ d q. Owed NoMemory faults (outcome d q)) (λ d q. memory_owed (outcome d q) faults)
+completes Done (Err owed) contents faults old new s = absurd s
+completes Done (Ok f) contents faults old new s = λ _. both (contents f.data_name) (contents f.query_name) _ (λ d q. Owed Done faults (outcome d q)) (λ d q h. done_owed (outcome d q) (λ work. Fits work old new) faults h) s
+completes NotYet (Err owed) contents faults old new s = inl (sym s.0)
+completes NotYet (Ok f) contents faults old new s = refused NotYet f contents faults s.0
+completes (BadData line) (Err owed) contents faults old new s = inl (sym s.0)
+completes (BadData line) (Ok f) contents faults old new s = refused (BadData line) f contents faults s.0
+completes (Limit which) (Err owed) contents faults old new s = inl (sym s.0)
+completes (Limit which) (Ok f) contents faults old new s = refused (Limit which) f contents faults s.0
+completes WriteFault (Err owed) contents faults old new s = absurd s.0
+completes WriteFault (Ok f) contents faults old new s = λ _. both (contents f.data_name) (contents f.query_name) _ (λ d q. Owed WriteFault faults (outcome d q)) (λ d q h. write_owed (outcome d q) (λ work. FitsFront work old new) faults h s.1) s.0
+completes (ReadFault name) (Err owed) contents faults old new s = absurd s.0
+completes (ReadFault name) (Ok f) contents faults old new s = λ none. absurd (neither faults name f _ s.0.0 s.0.1 none.0 none.1)

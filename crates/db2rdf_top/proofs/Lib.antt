@@ -2,3 +2,4 @@ pub mod Tabs
 pub mod Notes
 pub mod Rows
 pub mod Ends
+pub mod Options

@@ -31,7 +31,7 @@ use Rattle.query_meaning.specs.Answer.{Row, row_of, row_order, past, all_keys, o
 use Rattle.algebra_laws.specs.OrderedAnswer.{order-same}
 use Rattle.algebra_laws.specs.OneLeaf.{leaf_one}
 use Rattle.run_meaning.specs.FittingText.{numbers_from, all_shown, fitting_text}
-use Rattle.db2rdf_top.specs.Rows.{is_match, row_at, plain_order, sorted_matches}
+use Rattle.db2rdf_top.specs.Rows.{is_match, row_at, plain_order, sorted_matches, plain_answer_text}
 use Rattle.db2rdf_top.proofs.Notes.{present_distinct}
 
 -- what a stable sort by a closure gives, where each call compares by this order
@@ -108,10 +108,7 @@ numbers_next n count lt = let more : count - n ≡ suc (count - (n + 1)) = omega
 pub number_pushed : (vs all : List ℕ) (n count : ℕ) → n < count → vs ++ numbers_from n (count - n) ≡ all → (vs ++ n ∷ []) ++ numbers_from (n + 1) (count - (n + 1)) ≡ all
 number_pushed vs all n count lt e = append_assoc vs (n ∷ []) (numbers_from (n + 1) (count - (n + 1))) ∙ ap (λ (t : List ℕ). vs ++ t) (sym (numbers_next n count lt)) ∙ e
 
--- the text of the sorted matches is the one that fits
-pub whole_answer : (q : NamedPattern) (cs : List Change) (shown : List ℕ) (kept sorted : List RdfTriple) (text : List ℕ)
-    → shown ≡ numbers_from 0 (length q.names) → kept ≡ present cs → sorted ≡ sorted_matches q.pattern shown kept → pattern_in_width q.pattern ≡ true
-    → text ≡ answer_text q.names (map (row_at q.pattern shown) sorted) → text ≡ fitting_text (record { changes = cs; query = q })
-whole_answer q cs shown kept sorted text are is by w t =
-    let rows : map (row_at q.pattern shown) sorted ≡ map (row_at q.pattern (numbers_from 0 (length q.names))) (sorted_matches q.pattern (numbers_from 0 (length q.names)) (present cs)) = rw (by, is, are) refl in
-    t ∙ ap (answer_text q.names) (rows ∙ answer_is q.pattern (length q.names) cs w)
+-- over what is present, the text is the one that fits
+pub answer_fits : (q : NamedPattern) (cs : List Change) (kept : List RdfTriple) → kept ≡ present cs → pattern_in_width q.pattern ≡ true
+    → plain_answer_text q kept ≡ fitting_text (record { changes = cs; query = q })
+answer_fits q cs kept is w = ap (plain_answer_text q) is ∙ ap (answer_text q.names) (answer_is q.pattern (length q.names) cs w)

@@ -4,16 +4,13 @@ ghost use Rattle.std.specs.Prelude.{◌≡◌, ◌++◌, ◌∷◌, [], OnOk, If
 ghost use Rattle.std.specs.List.{flat_map};
 ghost use Rattle.query_meaning.specs.Leaf.{bound};
 ghost use Rattle.query_meaning.specs.AnswerText.{tabbed, row_text, header_text, answer_text, place_text};
-ghost use Rattle.run_meaning.specs.FittingText.{numbers_from, fitting_text};
-ghost use Rattle.db2rdf_top.specs.Rows.{row_at, sorted_matches};
+ghost use Rattle.run_meaning.specs.FittingText.{numbers_from};
+ghost use Rattle.db2rdf_top.specs.Rows.{row_at, plain_answer_text};
 
 use crate::solutions::{bound, keep_sorted_matches};
-use crate::triples::present;
-use line_meaning::Change;
 use pattern_query::PatternQuery;
 use query_meaning::{Pattern, VarId};
-use rdf_meaning::{Term, Text, Triple};
-use rdf_terms::write_term;
+use rdf_terms::{Text, Triple, write_term};
 use std::alloc::{AllocError, Global};
 
 fn write_name(name: &Text, text: &mut Vec<u8>) -> Result<(), AllocError>
@@ -123,16 +120,15 @@ fn variables_below(alloc: Global, count: usize) -> Result<Vec<VarId>, AllocError
     Ok(variables)
 }
 
-/// The text of the answer to a query over the triples that are present after the changes.
+/// The text of the answer to a query over these triples.
 pub(crate) fn answer(
     alloc: Global,
-    changes: Vec<Change>,
+    mut triples: Vec<Triple>,
     query: &PatternQuery,
 ) -> Result<Vec<u8>, AllocError>
-    ensures { IfOk result (λ text. text.items ≡ fitting_text record { changes = changes.items; query = query.now }) }
+    ensures { IfOk result (λ text. text.items ≡ plain_answer_text query.now triples.items) }
 {
     let shown = variables_below(alloc, query.names.len())?;
-    let mut triples = present(alloc, changes)?;
     keep_sorted_matches(&query.pattern, &shown, &mut triples)?;
     let text = write_rows(alloc, query, &shown, &triples)?;
     Ok(text)

@@ -8,8 +8,7 @@ ghost use Rattle.query_meaning.specs.Leaf.{bound, slot_is, is_variable};
 ghost use Rattle.db2rdf_top.specs.Rows.{is_match, row_at, plain_order, sorted_matches};
 
 use query_meaning::{Pattern, Slot, VarId};
-use rdf_meaning::{Term, Triple};
-use rdf_terms::order;
+use rdf_terms::{Term, Triple, order};
 use std::alloc::AllocError;
 use std::cmp::Ordering;
 

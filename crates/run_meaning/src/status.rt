@@ -4,6 +4,7 @@ ghost use Rattle.std.specs.Prelude.{◌≡◌};
 ghost use Rattle.run_meaning.specs.Codes.{code_of};
 ghost use Rattle.run_meaning.specs.declared.status.Status.TheVariants.{NoMemory};
 
+use crate::which::Which;
 use rdf_meaning::Text;
 use std::alloc::{AllocError, AllocFailed};
 
@@ -14,6 +15,10 @@ pub enum Status {
     Done,
     /// The words are not in the grammar of the command line.
     Usage,
+    /// This line of the data file is the first one that is out of the grammar.
+    BadData { line: u64 },
+    /// A quantity passed its limit.
+    Limit { which: Which },
     /// A read of this file failed.
     ReadFault { name: Text },
     /// The output took a front of the text alone.
@@ -31,6 +36,8 @@ impl Status {
         match self {
             Status::Done => 0,
             Status::Usage => 2,
+            Status::BadData { .. } => 3,
+            Status::Limit { .. } => 5,
             Status::ReadFault { .. } => 6,
             Status::WriteFault => 7,
             Status::NotYet => 20,

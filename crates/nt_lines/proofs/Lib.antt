@@ -1,2 +1,5 @@
 pub mod Texts
 pub mod Ends
+pub mod Numbers
+pub mod Pieces
+pub mod Runs

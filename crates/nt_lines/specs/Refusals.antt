@@ -1,6 +1,6 @@
 -- What the reader answers, beside what the lines say.
-use Rattle.std.specs.Prelude.{◌≡◌, ◌+◌, ℕ, List, [], ◌∷◌, ◌++◌, Option, Some, None, Result, Ok, Err, length}
-use Rattle.line_meaning.specs.Lines.{Line, lines_from, Reading, Nothing, Adds}
+use Rattle.std.specs.Prelude.{◌≡◌, ◌+◌, ℕ, List, [], Option, Some, None, Result, Ok, Err}
+use Rattle.line_meaning.specs.Lines.{Line, lines_from, Reading, Nothing, Adds, Deletes}
 use Rattle.line_meaning.specs.Changes.{Refused}
 use Rattle.line_meaning.specs.Changes as refused
 use Rattle.nt_lines.specs.declared.refusal.LineRefusal.{LineRefusal}
@@ -8,6 +8,8 @@ use Rattle.nt_lines.specs.declared.refusal.LineRefusal.TheVariants.{NoMemory, Ba
 use Rattle.nt_lines.specs.declared.line.Said.{Said}
 use Rattle.nt_lines.specs.declared.line.Said.TheVariants as said
 use Rattle.std.specs.Borrow.{Bor}
+use Rattle.line_meaning.specs.declared.change.Change.{Change}
+use Rattle.line_meaning.specs.declared.change.Change.TheVariants.{Add, Delete}
 
 -- a refusal is the defined one, unless memory ran out
 abbrev pub Refuses : {Y : Type 0} → LineRefusal → Result Y Refused → Type 0
@@ -20,10 +22,14 @@ abbrev pub Gives : {X Y : Type 0} → (X → Y) → Result X LineRefusal → Res
 Gives view (Ok x) read = read ≡ Ok (view x)
 Gives view (Err e) read = Refuses e read
 
+abbrev pub reading_by : Change → Reading
+reading_by (Add triple) = Adds triple
+reading_by (Delete triple) = Deletes triple
+
 -- what a line says, or that it is out of the grammar
 abbrev pub reading : Said → Option Reading
 reading said.Nothing = Some Nothing
-reading (said.Triple triple) = Some (Adds triple)
+reading (said.Change change) = Some (reading_by change)
 reading said.Bad = None
 
 -- the lines after the first one, the first of which has this number or the next

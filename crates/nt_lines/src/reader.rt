@@ -62,7 +62,7 @@ fn add_line(
     }
     match read_line(alloc, text)? {
         Said::Nothing => {}
-        Said::Triple(triple) => changes.push(Change::Add(triple))?,
+        Said::Change(change) => changes.push(change)?,
         Said::Bad => return Err(LineRefusal::Bad { line }),
     }
     Ok(())

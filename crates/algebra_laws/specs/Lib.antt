@@ -3,3 +3,9 @@ pub mod Choices
 pub mod MappingLaws
 pub mod Assignments
 pub mod OneLeaf
+pub mod Joins
+pub mod LeavesJoin
+pub mod Optional
+pub mod Split
+pub mod TreeInduction
+pub mod TreeSolutions

@@ -52,7 +52,7 @@ pub agreed : (n : ℕ) (a b : Mapping) → agree_below n a b ≡ true → (v : �
 agreed zero a b e v l = absurd (omega arith)
 agreed (suc n) a b e v l = let h = and_parts _ _ e in agreed-step n a b h.0 (agreed n a b h.1) v l
 
-either-right : (x y : Option RdfTerm) → is_some y ≡ true → agree x y ≡ true → either x y ≡ y
+pub either-right : (x y : Option RdfTerm) → is_some y ≡ true → agree x y ≡ true → either x y ≡ y
 either-right (Some s) (Some t) e h = ap (λ (t : RdfTerm). Some t) (same_term-is s t h)
 either-right None y e h = refl
 either-right (Some s) None e h = cc

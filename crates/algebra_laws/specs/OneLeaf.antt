@@ -14,6 +14,7 @@ use Rattle.query_meaning.specs.declared.pattern.Pattern.{Pattern}
 use Rattle.query_meaning.specs.Mapping.{Mapping, nothing, set, width}
 use Rattle.query_meaning.specs.Leaf.{with_term, terms_of, is_variable, in_pattern, choices, assignments, is_term, slot_is, instance_is, holds, leaf, bind_slot, bound, matches}
 use Rattle.query_meaning.specs.Answer.{same_place}
+use Rattle.query_meaning.specs.Matches.{same_below}
 use Rattle.query_meaning.specs.Width.{pattern_in_width, slot_in_width}
 use Rattle.algebra_laws.specs.OrderedAnswer.{same_place-is, same_place-self}
 use Rattle.algebra_laws.specs.Choices.{Apart}
@@ -55,11 +56,6 @@ instance-bound p t m s e = fun_ext (λ v. at v)
         bind-agree p.o t.o m nothing v b.1 (λ z. none-is (m v) (s v ∙ rw (x, y, z) (and_no (ltb v width))))))
 
 -- ---- just one assignment is a given mapping
-
--- the same below n
-abbrev pub same_below : ℕ → Mapping → Mapping → Bool
-same_below zero m k = true
-same_below (suc v) m k = same_place (m v) (k v) && same_below v m k
 
 pub same_below-refl : (n : ℕ) (m : Mapping) → same_below n m m ≡ true
 same_below-refl zero m = refl
@@ -136,7 +132,7 @@ or_no : (b : Bool) → b ≡ (b || false)
 or_no true = refl
 or_no false = refl
 
-bound-chosen : (ts : List RdfTerm) (p : Pattern) (t : RdfTriple) → list_any (same_term t.s) ts ≡ true → list_any (same_term t.p) ts ≡ true → list_any (same_term t.o) ts ≡ true → (v : ℕ) → Chosen ts (in_pattern v p) (bound p t v)
+pub bound-chosen : (ts : List RdfTerm) (p : Pattern) (t : RdfTriple) → list_any (same_term t.s) ts ≡ true → list_any (same_term t.p) ts ≡ true → list_any (same_term t.o) ts ≡ true → (v : ℕ) → Chosen ts (in_pattern v p) (bound p t v)
 bound-chosen ts p t a b c v =
     bind-chosen ts p.s t.s (bind_slot p.p t.p (bind_slot p.o t.o nothing)) v (is_variable v p.p || is_variable v p.o) a
     (bind-chosen ts p.p t.p (bind_slot p.o t.o nothing) v (is_variable v p.o) b

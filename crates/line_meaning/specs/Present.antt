@@ -23,7 +23,7 @@ abbrev pub is_present : List Change → RdfTriple → Bool
 is_present changes triple = fold (says_of triple) false changes
 
 abbrev pub with_triple : List RdfTriple → RdfTriple → List RdfTriple
-with_triple triples triple = if list_any (λ other. same_triple other triple) triples then triples else triples ++ triple ∷ []
+with_triple triples triple = if list_any (same_triple triple) triples then triples else triples ++ triple ∷ []
 
 -- the triples that the changes name, each once, in order of first naming
 abbrev pub all_named : List Change → List RdfTriple

@@ -1,6 +1,7 @@
 //! From places with names to a pattern with numbers.
 
-ghost use Rattle.std.specs.Prelude.{◌≡◌, ◌≤◌, ◌<◌, ◌+◌, IfOk, OnOk, length};
+ghost use Rattle.std.specs.Prelude.{◌≡◌, ◌≤◌, ◌<◌, ◌+◌, IfOk, OnOk, IsTrue, length};
+ghost use Rattle.query_meaning.specs.Width.{slot_in_width};
 ghost use Rattle.pattern_query.specs.Places.{with_name, names_of, index_of, slot_of, numbered};
 
 use query_meaning::{Pattern, Slot, VarId};
@@ -31,11 +32,15 @@ pub struct PatternQuery {
 }
 
 impl Model for PatternQuery {
+    ghost use Rattle.std.specs.Prelude.{◌≤◌, length, IsTrue};
+    ghost use Rattle.query_meaning.specs.Width.{pattern_in_width};
     ghost use Rattle.pattern_query.specs.Places.{NamedPattern};
 
     ghost Value = { NamedPattern };
 
     ghost view = { λ q. record { names = q.names.items; pattern = q.pattern } };
+
+    ghost invariant = { λ q. (length q.names.items ≤ 3) × IsTrue (pattern_in_width q.pattern) };
 }
 
 // Adds a variable's name that is not there yet.
@@ -77,9 +82,11 @@ fn index_of(names: &[Text], name: &Text) -> u32
     index
 }
 
+#[tactic(auto, unfolding(query_meaning::specs::Mapping::width))]
 fn slot_of(names: &[Text], place: Place) -> Slot
     requires { length names.now ≤ 3 }
-    ensures { result ≡ slot_of names.now place }
+    ensures value { result ≡ slot_of names.now place }
+    ensures in_width { IsTrue (slot_in_width result) }
 {
     match place {
         Place::Variable(name) => Slot::Var(VarId::new(index_of(names, &name))),

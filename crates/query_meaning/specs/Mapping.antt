@@ -1,5 +1,5 @@
 -- Solution mappings (SPARQL 1.1 Query, section 18.1.8), compatible mappings and their merge (section 18.5).
-use Rattle.std.specs.Prelude.{ℕ, zero, suc, Bool, true, false, if◌then◌else◌, ◌&&◌, ◌==◌, Option, Some, None}
+use Rattle.std.specs.Prelude.{ℕ, zero, suc, Bool, true, if◌then◌else◌, ◌&&◌, ◌==◌, Option, Some, None}
 use Rattle.rdf_meaning.specs.Terms.{RdfTerm, same_term}
 
 -- from the number of a variable to its term, or to none where it is unbound

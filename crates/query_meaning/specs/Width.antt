@@ -1,5 +1,5 @@
 -- Variables that there are: numbered below the width of mappings.
-use Rattle.std.specs.Prelude.{ℕ, Bool, true, ◌&&◌, nat_lt}
+use Rattle.std.specs.Prelude.{Bool, true, ◌&&◌, nat_lt}
 use Rattle.query_meaning.specs.declared.pattern.Slot.{Slot}
 use Rattle.query_meaning.specs.declared.pattern.Slot.TheVariants.{Var, Const}
 use Rattle.query_meaning.specs.declared.pattern.Pattern.{Pattern}

@@ -1,0 +1,4 @@
+pub mod Stars
+pub mod Plans
+pub mod PlanLaws
+pub mod Merged

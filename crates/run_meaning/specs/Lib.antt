@@ -1,0 +1,5 @@
+pub mod Codes
+pub mod Words
+pub mod Outcome
+pub mod FittingText
+pub mod Causes

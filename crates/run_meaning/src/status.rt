@@ -1,0 +1,56 @@
+//! How a run ended.
+
+ghost use Rattle.std.specs.Prelude.{◌≡◌};
+ghost use Rattle.run_meaning.specs.Codes.{code_of};
+ghost use Rattle.run_meaning.specs.declared.status.Status.TheVariants.{NoMemory};
+
+use rdf_meaning::Text;
+use std::alloc::{AllocError, AllocFailed};
+
+/// How a run of the program ended.
+#[derive(Debug, Drop)]
+pub enum Status {
+    /// All input was read to its end, and the whole text was put.
+    Done,
+    /// The words are not in the grammar of the command line.
+    Usage,
+    /// A read of this file failed.
+    ReadFault { name: Text },
+    /// The output took a front of the text alone.
+    WriteFault,
+    /// What was asked for isn't built yet.
+    NotYet,
+    NoMemory,
+}
+
+impl Status {
+    /// The program's exit code.
+    pub fn code(&self) -> u8
+        ensures { result ≡ code_of self.now }
+    {
+        match self {
+            Status::Done => 0,
+            Status::Usage => 2,
+            Status::ReadFault { .. } => 6,
+            Status::WriteFault => 7,
+            Status::NotYet => 20,
+            Status::NoMemory => 70,
+        }
+    }
+}
+
+impl From<AllocError> for Status {
+    ghost from_gives = { λ _ e. e ≡ NoMemory };
+
+    fn from(_e: AllocError) -> Status {
+        Status::NoMemory
+    }
+}
+
+impl<T: Drop> From<AllocFailed<T>> for Status {
+    ghost from_gives = { λ _ e. e ≡ NoMemory };
+
+    fn from(_e: AllocFailed<T>) -> Status {
+        Status::NoMemory
+    }
+}

@@ -1,0 +1,5 @@
+pub mod Entities
+pub mod StarLeaves
+pub mod StarVariables
+pub mod Merging
+pub mod PlanSolutions

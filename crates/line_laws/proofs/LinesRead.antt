@@ -25,7 +25,7 @@ gap_parts : (cs : List ℕ) → cs ≡ gap cs ++ after_blanks cs
 unfolding gap
 gap_parts cs = parts (prefix_len is_blank cs) cs
 
-regroup : (a b c d e f rest : List ℕ) → (a ++ (b ++ (c ++ (d ++ (e ++ (f ++ 46 ∷ [])))))) ++ rest ≡ a ++ (b ++ (c ++ (d ++ (e ++ (f ++ 46 ∷ rest)))))
+pub regroup : (a b c d e f rest : List ℕ) → (a ++ (b ++ (c ++ (d ++ (e ++ (f ++ 46 ∷ [])))))) ++ rest ≡ a ++ (b ++ (c ++ (d ++ (e ++ (f ++ 46 ∷ rest)))))
 regroup a b c d e f rest = simp append_assoc
 
 pub triple_front : (cs : List ℕ) (x : RdfTriple × List ℕ) → triple_at cs ≡ Some x → Front (λ w. SpellsTriple w x.0) cs x.1
@@ -112,20 +112,21 @@ mark_front : (letter : ℕ) (before cs : List ℕ) (triple : RdfTriple) → Each
 mark_front letter before cs triple b e =
     let g = bind_some (after_gap cs) last_triple triple e in
     let gp = gap_front cs g.0 g.1 in
-    let l = last_front g.0 triple g.2 in
-    (letter ∷ gp.first ∷ gp.others,
-     record { first = gp.first; others = gp.others; first_blank = gp.first_blank; others_blank = gp.others_blank; whole = refl },
-     record {
-       before = before;
-       body = l.body;
-       after = l.after;
-       comment = l.comment;
-       before_blank = b;
-       spelled = l.spelled;
-       after_blank = l.after_blank;
-       is_comment = l.is_comment;
-       whole = ap (λ (t : List ℕ). before ++ letter ∷ t) (gp.whole ∙ ap (λ (t : List ℕ). gp.first ∷ (gp.others ++ t)) l.whole);
-     })
+    let l = last_front g.0 triple g.2 in (
+      letter ∷ gp.first ∷ gp.others,
+      record { first = gp.first; others = gp.others; first_blank = gp.first_blank; others_blank = gp.others_blank; whole = refl },
+      record {
+        before = before;
+        body = l.body;
+        after = l.after;
+        comment = l.comment;
+        before_blank = b;
+        spelled = l.spelled;
+        after_blank = l.after_blank;
+        is_comment = l.is_comment;
+        whole = ap (λ (t : List ℕ). before ++ letter ∷ t) (gp.whole ∙ ap (λ (t : List ℕ). gp.first ∷ (gp.others ++ t)) l.whole);
+      },
+    )
 
 marked_add : (before cs : List ℕ) (r : Reading) → Each is_blank before → marked Adds cs ≡ Some r → CharactersRead (before ++ 65 ∷ cs) r
 marked_add before cs r b e =
@@ -175,9 +176,10 @@ content_front before (c ∷ cs) r b e = content_cases (eqb c 35) (eqb c 65) (eqb
 pub sound : IsSound
 unfolding reading_of
 sound line r e =
-    let h = by_text (is_utf8 line) (chars_reading (chars line)) e in
-    (IsUtf8-from_is_utf8 line h.0,
-     subst (λ (t : List ℕ). CharactersRead t r) (sym (gap_parts (chars line))) (content_front (gap (chars line)) (after_blanks (chars line)) r (gap_blank (chars line)) h.1))
+    let h = by_text (is_utf8 line) (chars_reading (chars line)) e in (
+      IsUtf8-from_is_utf8 line h.0,
+      subst (λ (t : List ℕ). CharactersRead t r) (sym (gap_parts (chars line))) (content_front (gap (chars line)) (after_blanks (chars line)) r (gap_blank (chars line)) h.1),
+    )
   where
     by_text : (b : Bool) (o : Option Reading) → cond b o None ≡ Some r → (b ≡ true) × (o ≡ Some r)
     by_text true o e = (refl, e)

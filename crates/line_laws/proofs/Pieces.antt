@@ -95,7 +95,7 @@ sound_text form (suc n) [] x e = cc
 sound_text form zero (c ∷ cs) x e = close_cases (eqb c (close_of form)) form c cs x (λ m y h. sound_text form m cs y h) refl e
 sound_text form (suc n) (c ∷ cs) x e = sound_text form n cs x e
 
-not_same : (c d : ℕ) → (c ≡ d → ⊥) → eqb c d ≡ false
+pub not_same : (c d : ℕ) → (c ≡ d → ⊥) → eqb c d ≡ false
 not_same c d h = by_test (eqb c d) refl
   where
     by_test : (b : Bool) → eqb c d ≡ b → eqb c d ≡ false
@@ -159,7 +159,7 @@ one_more form front later c (inl h) = rw (h.whole, raw_differs form c (close_of 
 one_more form front later c (inr (inl h)) = rw (h.whole, back_not_close form, escaped_back form (h.letter ∷ later), escape_back form h.letter later c h.short) refl
 one_more form front later c (inr (inr h)) =
     rw (h.whole, back_not_close form, escaped_back form (h.mark ∷ (h.digits ++ later)), code_escape_back form h.mark h.digits later c h.count h.number h.scalar, add-one)
-        (ap (λ (o : Option (List ℕ × List ℕ)). onto (encode_utf8 c) o) (passes form h.digits later))
+    (ap (λ (o : Option (List ℕ × List ℕ)). onto (encode_utf8 c) o) (passes form h.digits later))
 
 closes : (form : Enclosure) (rest : List ℕ) → text_behind form 0 (close_of form ∷ rest) ≡ Some ([], rest)
 closes Iri rest = refl

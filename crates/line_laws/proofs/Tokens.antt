@@ -62,9 +62,10 @@ iri_term_back w rest t h = rw (iri_back w h.text rest h.enclosed, h.term) refl
 -- full stops that stand last are cut, and nothing else
 dots_cut : (cs : List ℕ) → (dots : List ℕ) × (cs ≡ without_last_dots cs ++ dots)
 dots_cut cs =
-    let n = prefix_len is_dot (reverse cs) in
-    (reverse (take n (reverse cs)),
-     sym (reverse-reverse cs) ∙ ap (λ (t : List ℕ). reverse t) (parts n (reverse cs)) ∙ reverse-append (take n (reverse cs)) (drop n (reverse cs)))
+    let n = prefix_len is_dot (reverse cs) in (
+      reverse (take n (reverse cs)),
+      sym (reverse-reverse cs) ∙ ap (λ (t : List ℕ). reverse t) (parts n (reverse cs)) ∙ reverse-append (take n (reverse cs)) (drop n (reverse cs)),
+    )
 
 -- a label is a front
 run_front : (cs : List ℕ) → cs ≡ label_run cs ++ drop (length (label_run cs)) cs
@@ -103,7 +104,7 @@ subject_front cs x e = subject_cases (starts 60 cs) cs x e
 small_part : (c : ℕ) → is_tag_part c ≡ true → lower c < 128
 small_part c e = grind (arith, nat_tests)
 
-small_tag : (cs : List ℕ) → Each is_tag_part cs → IsAscii (map lower cs)
+pub small_tag : (cs : List ℕ) → Each is_tag_part cs → IsAscii (map lower cs)
 small_tag [] e = IsAscii-nil
 small_tag (c ∷ cs) e = IsAscii-cons (lower c) (map lower cs) (small_part c e.0) (small_tag cs e.1)
 

@@ -3,3 +3,4 @@ pub mod Ends
 pub mod Numbers
 pub mod Pieces
 pub mod Runs
+pub mod Readings

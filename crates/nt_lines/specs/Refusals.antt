@@ -3,6 +3,7 @@ use Rattle.std.specs.Prelude.{◌≡◌, ◌+◌, ℕ, List, [], Option, Some, N
 use Rattle.line_meaning.specs.Lines.{Line, lines_from, Reading, Nothing, Adds, Deletes}
 use Rattle.line_meaning.specs.Changes.{Refused}
 use Rattle.line_meaning.specs.Changes as refused
+use Rattle.line_laws.specs.LineLaws.{LinesRead, FirstRefused}
 use Rattle.nt_lines.specs.declared.refusal.LineRefusal.{LineRefusal}
 use Rattle.nt_lines.specs.declared.refusal.LineRefusal.TheVariants.{NoMemory, Bad, TooLong}
 use Rattle.nt_lines.specs.declared.line.Said.{Said}
@@ -36,3 +37,13 @@ reading said.Bad = None
 abbrev pub lines_after : ℕ → Option (Bor (List ℕ) × ℕ) → List Line
 lines_after n None = []
 lines_after n (Some x) = lines_from (n + x.1) x.0.now
+
+abbrev pub RefusesFirst : LineRefusal → List Line → Type 0
+RefusesFirst NoMemory lines = Unit {0}
+RefusesFirst (Bad n) lines = FirstRefused lines (refused.Bad n)
+RefusesFirst (TooLong n) lines = FirstRefused lines (refused.TooLong n)
+
+-- what was answered is what the lines read as in the grammar, or the first line that is refused, unless memory ran out
+abbrev pub IsReading : {X : Type 0} → (X → List Change) → Result X LineRefusal → List Line → Type 0
+IsReading view (Ok x) lines = LinesRead lines (view x)
+IsReading view (Err e) lines = RefusesFirst e lines

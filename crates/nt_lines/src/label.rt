@@ -61,7 +61,11 @@ fn goes_on_as_label(chars: &[char]) -> bool
 {
     let mut rest = chars;
     'characters: while let Some((c, tail)) = rest.split_first() {
-        let fits = if *c == '.' { !tail.is_empty() } else { is_label_part(*c) };
+        let fits = if *c == '.' {
+            !tail.is_empty()
+        } else {
+            is_label_part(*c)
+        };
         if !fits {
             return false;
         }
@@ -74,7 +78,8 @@ fn is_label(chars: &[char]) -> bool
     ensures { result ≡ is_label_of chars.now }
 {
     match chars.split_first() {
-        Some((first, rest)) => (is_label_start(*first) || is_between('0', '9', *first)) && goes_on_as_label(rest),
+        Some((first, rest)) => (is_label_start(*first) || is_between('0', '9', *first))
+            && goes_on_as_label(rest),
         None => false,
     }
 }

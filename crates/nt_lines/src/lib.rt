@@ -8,6 +8,8 @@ mod line;
 mod reader;
 mod refusal;
 mod term;
+#[cfg(test)]
+mod tests;
 
 pub use line_meaning::Change;
 pub use reader::read_changes;

@@ -62,7 +62,11 @@ fn after_gap(chars: &[char]) -> Option<&[char]>
     ensures { option_map (λ rest. rest.now) result ≡ after_gap chars.now }
 {
     let (first, rest) = chars.split_first()?;
-    if is_blank(*first) { Some(after_blanks(rest)) } else { None }
+    if is_blank(*first) {
+        Some(after_blanks(rest))
+    } else {
+        None
+    }
 }
 
 // The triple behind a mark.

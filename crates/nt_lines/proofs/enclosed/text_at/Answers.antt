@@ -7,5 +7,5 @@ use Rattle.nt_lines.proofs.enclosed.text_at.Goals as goal
 pub pieces-preserved : goal.pieces-preserved
 pieces-preserved c =
     step_kept c.args.form (string_bytes c.pieces.text) (string_bytes c.push.new.self) c.in-Some.first.now c.in-Some.tail.now c.pieces.rest.now
-        (c.in-Some-piece_at.c, c.in-Some-piece_at.count) _ _ c.pieces.invariant
-        (grind (arith, common_steps)) (grind (arith, common_steps)) (grind (arith, common_steps)) (grind (arith, common_steps)) (grind (arith, common_steps)) (grind (arith, common_steps))
+    (c.in-Some-piece_at.c, c.in-Some-piece_at.count) _ _ c.pieces.invariant
+    (grind (arith, common_steps)) (grind (arith, common_steps)) (grind (arith, common_steps)) (grind (arith, common_steps)) (grind (arith, common_steps)) (grind (arith, common_steps))

@@ -1,7 +1,7 @@
 use Rattle.std.proofs.Common.{◌≡◌, ◌+◌, ◌≤◌, length}
 use Rattle.line_meaning.specs.Lines.{lines_from}
 use Rattle.line_meaning.specs.Changes.{before, changes_in}
-use Rattle.nt_lines.proofs.reader.read_changes.Given as goal
+use Rattle.nt_lines.proofs.reader.read_lines.Given as goal
 
 abbrev pub invariant-lines : goal.invariant-lines
 invariant-lines l =

@@ -1,20 +1,26 @@
 -- What a text of data lines changes, or where it is refused.
 use Rattle.std.specs.Prelude.{ℕ, List, [], ◌∷◌, ◌++◌, length, Option, Some, None, Result, Ok, Err, nat_lt, if◌then◌else◌}
 use Rattle.rdf_meaning.specs.Terms.{RdfTriple}
-use Rattle.line_meaning.specs.Lines.{Line, lines_of, Reading, Nothing, Adds}
+use Rattle.line_meaning.specs.Lines.{Line, lines_of, Reading, Nothing, Adds, Deletes}
 use Rattle.line_meaning.specs.Reader.{reading_of}
 use Rattle.line_meaning.specs.declared.change.Change.{Change}
-use Rattle.line_meaning.specs.declared.change.Change.TheVariants.{Add}
+use Rattle.line_meaning.specs.declared.change.Change.TheVariants.{Add, Delete}
 
 -- the first line that is refused
 pub data Refused : Type 0 where
   TooLong : ℕ → Refused
   Bad : ℕ → Refused
 
+-- what a line changes
+abbrev pub changes_by : Reading → List Change
+changes_by Nothing = []
+changes_by (Adds triple) = Add triple ∷ []
+changes_by (Deletes triple) = Delete triple ∷ []
+
+-- a line without a reading is out of the grammar
 abbrev pub says : ℕ → Option Reading → Result (List Change) Refused
 says n None = Err (Bad n)
-says n (Some Nothing) = Ok []
-says n (Some (Adds triple)) = Ok (Add triple ∷ [])
+says n (Some reading) = Ok (changes_by reading)
 
 -- a line of more than 65,536 bytes is refused as such
 abbrev pub line_changes : Line → Result (List Change) Refused

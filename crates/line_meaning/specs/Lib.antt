@@ -1,6 +1,6 @@
+pub mod Characters
 pub mod Lines
+pub mod Grammar
 pub mod Reader
 pub mod Changes
 pub mod Present
-pub mod Cuts
-pub mod LineLaws

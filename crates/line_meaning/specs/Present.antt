@@ -1,5 +1,5 @@
 -- Which triples are present after a list of changes.
-use Rattle.std.specs.Prelude.{Bool, true, false, if◌then◌else◌, List, [], ◌∷◌, ◌++◌, map, filter, fold}
+use Rattle.std.specs.Prelude.{Bool, true, false, if◌then◌else◌, List, [], ◌∷◌, ◌++◌, map, filter, fold, not, take_while}
 use Rattle.std.specs.List.{list_any}
 use Rattle.rdf_meaning.specs.Terms.{RdfTriple, same_triple}
 use Rattle.line_meaning.specs.declared.change.Change.{Change}
@@ -32,3 +32,14 @@ all_named changes = fold with_triple [] (map named changes)
 -- the triples that are present after the changes
 abbrev pub present : List Change → List RdfTriple
 present changes = filter (is_present changes) (all_named changes)
+
+abbrev pub is_delete : Change → Bool
+is_delete (Add triple) = false
+is_delete (Delete triple) = true
+
+abbrev pub is_no_delete : Change → Bool
+is_no_delete change = not (is_delete change)
+
+-- the changes before the first deletion
+abbrev pub bulk : List Change → List Change
+bulk changes = take_while is_no_delete changes

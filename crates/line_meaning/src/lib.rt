@@ -2,7 +2,7 @@
 #![tactic(auto)]
 
 mod change;
-mod laws;
+mod enclosure;
 
 pub use change::Change;
-pub use laws::lines_are_read;
+pub use enclosure::Enclosure;

@@ -1,13 +1,16 @@
 -- What the reader answers, beside what the lines say.
-use Rattle.std.specs.Prelude.{◌≡◌, ◌+◌, ℕ, List, [], ◌∷◌, ◌++◌, Option, Some, None, Result, Ok, Err, length}
-use Rattle.line_meaning.specs.Lines.{Line, lines_from, Reading, Nothing, Adds}
+use Rattle.std.specs.Prelude.{◌≡◌, ◌+◌, ℕ, List, [], Option, Some, None, Result, Ok, Err}
+use Rattle.line_meaning.specs.Lines.{Line, lines_from, Reading, Nothing, Adds, Deletes}
 use Rattle.line_meaning.specs.Changes.{Refused}
 use Rattle.line_meaning.specs.Changes as refused
+use Rattle.line_laws.specs.LineLaws.{LinesRead, FirstRefused}
 use Rattle.nt_lines.specs.declared.refusal.LineRefusal.{LineRefusal}
 use Rattle.nt_lines.specs.declared.refusal.LineRefusal.TheVariants.{NoMemory, Bad, TooLong}
 use Rattle.nt_lines.specs.declared.line.Said.{Said}
 use Rattle.nt_lines.specs.declared.line.Said.TheVariants as said
 use Rattle.std.specs.Borrow.{Bor}
+use Rattle.line_meaning.specs.declared.change.Change.{Change}
+use Rattle.line_meaning.specs.declared.change.Change.TheVariants.{Add, Delete}
 
 -- a refusal is the defined one, unless memory ran out
 abbrev pub Refuses : {Y : Type 0} → LineRefusal → Result Y Refused → Type 0
@@ -20,13 +23,27 @@ abbrev pub Gives : {X Y : Type 0} → (X → Y) → Result X LineRefusal → Res
 Gives view (Ok x) read = read ≡ Ok (view x)
 Gives view (Err e) read = Refuses e read
 
+abbrev pub reading_by : Change → Reading
+reading_by (Add triple) = Adds triple
+reading_by (Delete triple) = Deletes triple
+
 -- what a line says, or that it is out of the grammar
 abbrev pub reading : Said → Option Reading
 reading said.Nothing = Some Nothing
-reading (said.Triple triple) = Some (Adds triple)
+reading (said.Change change) = Some (reading_by change)
 reading said.Bad = None
 
 -- the lines after the first one, the first of which has this number or the next
 abbrev pub lines_after : ℕ → Option (Bor (List ℕ) × ℕ) → List Line
 lines_after n None = []
 lines_after n (Some x) = lines_from (n + x.1) x.0.now
+
+abbrev pub RefusesFirst : LineRefusal → List Line → Type 0
+RefusesFirst NoMemory lines = Unit {0}
+RefusesFirst (Bad n) lines = FirstRefused lines (refused.Bad n)
+RefusesFirst (TooLong n) lines = FirstRefused lines (refused.TooLong n)
+
+-- what was answered is what the lines read as in the grammar, or the first line that is refused, unless memory ran out
+abbrev pub IsReading : {X : Type 0} → (X → List Change) → Result X LineRefusal → List Line → Type 0
+IsReading view (Ok x) lines = LinesRead lines (view x)
+IsReading view (Err e) lines = RefusesFirst e lines

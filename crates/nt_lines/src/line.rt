@@ -1,14 +1,16 @@
-//! One line, read from its front.
+//! One line.
 
-ghost use Rattle.std.specs.Prelude.{◌≡◌, ◌<◌, IfOk, IfSome, option_map, option_copied};
-ghost use Rattle.line_meaning.specs.Lines.{is_blank, is_iri_byte};
-ghost use Rattle.line_meaning.specs.Reader.{after_blanks, after_byte, iri_at, triple_at, text_reading, reading_of};
-ghost use Rattle.std.specs.List.{prefix_len};
-ghost use Rattle.std.specs.Str.{IsUtf8};
-ghost use Rattle.rdf_meaning.specs.Terms.{iri};
+ghost use Rattle.std.specs.Prelude.{◌≡◌, ◌≤◌, length, option_map, IfOk, MatchOption};
+ghost use Rattle.std.specs.Str.{chars, IsUtf8};
+ghost use Rattle.line_meaning.specs.Reader.{after_blanks, triple_at, last_triple, after_gap, content, chars_reading, reading_of};
+ghost use Rattle.nt_lines.specs.Fronts.{front_triple, marked_triple};
+ghost use Rattle.line_meaning.specs.Lines.{Adds, Deletes};
 ghost use Rattle.nt_lines.specs.Refusals.{reading};
 
-use rdf_meaning::{Term, TermKind, Triple, text_of};
+use crate::characters::{after_blanks, after_char, is_blank, is_end};
+use crate::term::{iri_term_at, object_at, subject_at};
+use line_meaning::Change;
+use rdf_meaning::Triple;
 use std::alloc::{AllocError, Global};
 use std::str;
 
@@ -16,135 +18,118 @@ use std::str;
 #[derive(Debug, Drop)]
 pub enum Said {
     Nothing,
-    Triple(Triple),
+    Change(Change),
     Bad,
 }
 
-fn is_blank(byte: u8) -> bool
-    ensures { result ≡ is_blank byte }
-{
-    byte == b' ' || byte == b'\t'
-}
-
-fn is_iri_byte(byte: u8) -> bool
-    ensures { result ≡ is_iri_byte byte }
-{
-    !(byte <= b' '
-        || matches!(
-            byte,
-            b'<' | b'>' | b'"' | b'{' | b'}' | b'|' | b'^' | b'`' | b'\\'
-        ))
-}
-
-// How many blanks stand at the front.
-fn blank_count(bytes: &[u8]) -> usize
-    ensures { result ≡ prefix_len is_blank bytes.now }
-{
-    for (i, byte) in bytes.iter().enumerate() {
-        if !is_blank(*byte) {
-            return i;
-        }
-    }
-    bytes.len()
-}
-
-// How many bytes at the front may stand in an IRI.
-fn iri_len(bytes: &[u8]) -> usize
-    ensures { result ≡ prefix_len is_iri_byte bytes.now }
-{
-    for (i, byte) in bytes.iter().enumerate() {
-        if !is_iri_byte(*byte) {
-            return i;
-        }
-    }
-    bytes.len()
-}
-
-fn after_blanks(text: &str) -> &str
-    ensures { result.now ≡ after_blanks text.now }
-{
-    let count = blank_count(text.as_bytes());
-    &text[count..]
-}
-
-pub fn after_byte(byte: u8, text: &str) -> Option<&str>
-    requires { byte < 128 }
-    ensures value { option_copied result ≡ after_byte byte text.now }
-    ensures utf8 { IfSome result (λ rest. IsUtf8 rest.now) }
-{
-    match text.as_bytes() {
-        [first, ..] if *first == byte => Some(&text[1..]),
-        _ => None,
-    }
-}
-
-// An IRI in brackets, and what follows.
-#[tactic(auto, unfolding(line_meaning::specs::Reader::iri_at))]
-pub fn iri_at(text: &str) -> Option<(&str, &str)>
-    ensures { option_map (λ x. (x.0.now, x.1.now)) result ≡ iri_at text.now }
-{
-    let inner = after_byte(b'<', text)?;
-    let count = iri_len(inner.as_bytes());
-    match inner.as_bytes().get(count) {
-        Some(b'>') => Some((&inner[..count], &inner[count + 1..])),
-        _ => None,
-    }
-}
-
-// An IRI's term.
-pub fn iri_term(alloc: Global, text: &str) -> Result<Term, AllocError>
-    ensures { IfOk result (λ term. term ≡ iri text.now) }
-{
-    Ok(Term {
-        kind: TermKind::Iri,
-        text: text_of(alloc, text)?,
-        aux: text_of(alloc, "")?,
-    })
-}
-
-// The triple that the whole line spells.
+// A triple with its full stop, and what follows.
 #[tactic(auto, unfolding(line_meaning::specs::Reader::triple_at))]
-fn triple_at(alloc: Global, text: &str) -> Result<Option<Triple>, AllocError>
-    ensures { IfOk result (λ triple. triple ≡ triple_at text.now) }
+fn triple_at(alloc: Global, chars: &[char]) -> Result<Option<(Triple, &[char])>, AllocError>
+    ensures { IfOk result (λ x. front_triple x ≡ triple_at chars.now) }
 {
-    let Some((s, rest)) = iri_at(after_blanks(text)) else {
+    let Some((s, rest)) = subject_at(alloc, chars)? else {
         return Ok(None);
     };
-    let Some((p, rest)) = iri_at(after_blanks(rest)) else {
+    let Some((p, rest)) = iri_term_at(alloc, after_blanks(rest))? else {
         return Ok(None);
     };
-    let Some((o, rest)) = iri_at(after_blanks(rest)) else {
+    let Some((o, rest)) = object_at(alloc, after_blanks(rest))? else {
         return Ok(None);
     };
-    let Some(rest) = after_byte(b'.', after_blanks(rest)) else {
+    let Some(rest) = after_char('.', after_blanks(rest)) else {
         return Ok(None);
     };
-    if !after_blanks(rest).is_empty() {
-        return Ok(None);
-    }
-    Ok(Some(Triple {
-        s: iri_term(alloc, s)?,
-        p: iri_term(alloc, p)?,
-        o: iri_term(alloc, o)?,
-    }))
+    Ok(Some((Triple { s, p, o }, rest)))
 }
 
-// What a line of text says.
-#[tactic(auto, unfolding(line_meaning::specs::Reader::text_reading))]
-fn read_text(alloc: Global, text: &str) -> Result<Said, AllocError>
-    ensures { IfOk result (λ said. reading said ≡ text_reading text.now) }
+// A triple that goes to the end of the line.
+#[tactic(auto, unfolding(line_meaning::specs::Reader::last_triple))]
+fn last_triple(alloc: Global, chars: &[char]) -> Result<Option<Triple>, AllocError>
+    ensures { IfOk result (λ triple. triple ≡ last_triple chars.now) }
 {
-    if after_blanks(text).is_empty() {
+    let Some((triple, rest)) = triple_at(alloc, chars)? else {
+        return Ok(None);
+    };
+    if !is_end(after_blanks(rest)) {
+        return Ok(None);
+    }
+    Ok(Some(triple))
+}
+
+// What follows at least one blank.
+#[tactic(auto, unfolding(line_meaning::specs::Reader::after_gap))]
+fn after_gap(chars: &[char]) -> Option<&[char]>
+    ensures { option_map (λ rest. rest.now) result ≡ after_gap chars.now }
+{
+    let (first, rest) = chars.split_first()?;
+    if is_blank(*first) {
+        Some(after_blanks(rest))
+    } else {
+        None
+    }
+}
+
+// The triple behind a mark.
+fn marked(alloc: Global, chars: &[char]) -> Result<Option<Triple>, AllocError>
+    ensures { IfOk result (λ triple. triple ≡ marked_triple chars.now) }
+{
+    match after_gap(chars) {
+        Some(rest) => last_triple(alloc, rest),
+        None => Ok(None),
+    }
+}
+
+fn add(triple: Option<Triple>) -> Said
+    ensures { reading result ≡ option_map Adds triple }
+{
+    match triple {
+        Some(triple) => Said::Change(Change::Add(triple)),
+        None => Said::Bad,
+    }
+}
+
+fn delete(triple: Option<Triple>) -> Said
+    ensures { reading result ≡ option_map Deletes triple }
+{
+    match triple {
+        Some(triple) => Said::Change(Change::Delete(triple)),
+        None => Said::Bad,
+    }
+}
+
+// What stands behind the first blanks of a line.
+#[tactic(auto, unfolding(line_meaning::specs::Reader::content))]
+fn content(alloc: Global, chars: &[char]) -> Result<Said, AllocError>
+    ensures { IfOk result (λ said. reading said ≡ content chars.now) }
+{
+    let Some((first, rest)) = chars.split_first() else {
         return Ok(Said::Nothing);
+    };
+    match *first {
+        '#' => Ok(Said::Nothing),
+        'A' => Ok(add(marked(alloc, rest)?)),
+        'D' => Ok(delete(marked(alloc, rest)?)),
+        _ => Ok(add(last_triple(alloc, chars)?)),
     }
-    match triple_at(alloc, text)? {
-        Some(triple) => Ok(Said::Triple(triple)),
-        None => Ok(Said::Bad),
-    }
+}
+
+// The characters of a text.
+#[tactic(auto, using(std::proofs::lemmas::Str::chars_from_encodes))]
+fn chars_of(alloc: Global, text: &str) -> Result<Vec<char>, AllocError>
+    ensures { IfOk result (λ characters. characters.items ≡ chars text.now) }
+{
+    text.chars().collect(alloc)
+}
+
+fn read_text(alloc: Global, text: &str) -> Result<Said, AllocError>
+    ensures { IfOk result (λ said. reading said ≡ chars_reading (chars text.now)) }
+{
+    let characters = chars_of(alloc, text)?;
+    content(alloc, after_blanks(&characters))
 }
 
 /// What a line says.
-pub fn read_line(alloc: Global, line: &[u8]) -> Result<Said, AllocError>
+pub(crate) fn read_line(alloc: Global, line: &[u8]) -> Result<Said, AllocError>
     ensures { IfOk result (λ said. reading said ≡ reading_of line.now) }
 {
     match str::from_utf8(line) {

@@ -2,12 +2,13 @@
 
 ghost use Rattle.std.specs.Prelude.{◌≡◌, ◌∷◌, ◌<◌, ◌≤◌, ◌+◌, ◌^◌, ℕ, IfSome, length, ◌==◌, if◌then◌else◌};
 ghost use Rattle.std.specs.List.{prefix_len};
-ghost use Rattle.line_meaning.specs.Lines.{Line, lines_from, is_inner};
+ghost use Rattle.line_meaning.specs.Lines.{Line, lines_from, lines_of, is_inner};
 ghost use Rattle.line_meaning.specs.Changes.{before, line_changes, changes_of};
-ghost use Rattle.nt_lines.specs.Refusals.{Gives, lines_after};
+ghost use Rattle.nt_lines.specs.Refusals.{Gives, IsReading, lines_after};
 
 use crate::line::{Said, read_line};
 use crate::refusal::LineRefusal;
+use line_laws::lines_are_read;
 use line_meaning::Change;
 use std::alloc::Global;
 
@@ -62,14 +63,14 @@ fn add_line(
     }
     match read_line(alloc, text)? {
         Said::Nothing => {}
-        Said::Triple(triple) => changes.push(Change::Add(triple))?,
+        Said::Change(change) => changes.push(change)?,
         Said::Bad => return Err(LineRefusal::Bad { line }),
     }
     Ok(())
 }
 
-/// The changes of all lines, or the first line that is refused.
-pub fn read_changes(alloc: Global, bytes: &[u8]) -> Result<Vec<Change>, LineRefusal>
+// Goes from line to line.
+fn read_lines(alloc: Global, bytes: &[u8]) -> Result<Vec<Change>, LineRefusal>
     ensures { Gives (λ changes. changes.items) result (changes_of bytes.now) }
 {
     let mut changes = Vec::new(alloc);
@@ -84,4 +85,15 @@ pub fn read_changes(alloc: Global, bytes: &[u8]) -> Result<Vec<Change>, LineRefu
         rest = tail;
         line += rise;
     }
+}
+
+/// The changes of all lines of a text, or its first line that is refused: `TooLong` where it has more
+/// than 65,536 bytes, else `Bad` where it is out of the grammar of data lines. `value` says so by
+/// the readings that are computed, and `grammar` by the grammar itself.
+pub fn read_changes(alloc: Global, bytes: &[u8]) -> Result<Vec<Change>, LineRefusal>
+    ensures value { Gives (λ changes. changes.items) result (changes_of bytes.now) }
+    ensures grammar { IsReading (λ changes. changes.items) result (lines_of bytes.now) }
+{
+    lines_are_read();
+    read_lines(alloc, bytes)
 }

@@ -1,9 +1,9 @@
 -- The text of a query of one pattern that shows all its variables, read from its front.
-use Rattle.std.specs.Prelude.{ℕ, ◌+◌, Bool, true, false, List, [], ◌∷◌, length, take, drop, Option, Some, None, ◌==◌, ◌||◌, ◌&&◌, nat_lt, nat_le, if◌then◌else◌, codes, option_map}
+use Rattle.std.specs.Prelude.{ℕ, Bool, List, length, take, drop, Option, Some, None, ◌==◌, ◌||◌, ◌&&◌, nat_le, if◌then◌else◌, codes, option_map}
 use Rattle.std.specs.List.{prefix_len}
 use Rattle.std.specs.Str.{is_utf8, bytes_eq}
 use Rattle.rdf_meaning.specs.Terms.{iri}
-use Rattle.line_meaning.specs.Reader.{◌>>=◌, is_empty, after_byte, iri_at}
+use Rattle.pattern_query.specs.Fronts.{◌>>=◌, is_empty, after_byte, iri_at}
 use Rattle.pattern_query.specs.Places.{NamedPattern, numbered}
 use Rattle.pattern_query.specs.declared.places.Place.{Place}
 use Rattle.pattern_query.specs.declared.places.Place.TheVariants.{Variable, Constant}

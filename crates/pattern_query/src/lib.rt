@@ -1,6 +1,7 @@
 //! Queries of one pattern that show all its variables.
 #![tactic(auto)]
 
+mod front;
 mod places;
 mod reader;
 

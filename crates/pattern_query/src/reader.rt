@@ -5,8 +5,8 @@ ghost use Rattle.std.specs.List.{prefix_len};
 ghost use Rattle.std.specs.Str.{IsUtf8};
 ghost use Rattle.pattern_query.specs.Texts.{is_space, is_letter, after_space, after_word, past_word, place_at, places_at, select_of, places_of, pattern_query_of};
 
+use crate::front::{after_byte, iri_at, iri_term};
 use crate::places::{PatternQuery, Place, Places};
-use nt_lines::{after_byte, iri_at, iri_term};
 use rdf_meaning::text_of;
 use std::alloc::{AllocError, Global};
 use std::str;

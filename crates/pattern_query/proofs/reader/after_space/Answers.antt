@@ -1,4 +1,4 @@
-use Rattle.line_meaning.specs.Cuts.{after_front}
+use Rattle.pattern_query.specs.Cuts.{after_front}
 use Rattle.pattern_query.specs.Cuts.{space_ascii}
 use Rattle.pattern_query.specs.Texts.{is_space}
 use Rattle.pattern_query.proofs.reader.after_space.Goals as goal

@@ -1,6 +1,6 @@
 use Rattle.std.proofs.Common.{◌≡◌, length, take}
 use Rattle.std.proofs.lemmas.Slice.Eq.{bytes_eq-Decides}
-use Rattle.line_meaning.specs.Cuts.{after_text}
+use Rattle.pattern_query.specs.Cuts.{after_text}
 use Rattle.pattern_query.proofs.reader.after_word.Goals as goal
 
 pub range_from-requires : goal.range_from-requires

@@ -1,4 +1,4 @@
-use Rattle.line_meaning.specs.Cuts.{after_front}
+use Rattle.pattern_query.specs.Cuts.{after_front}
 use Rattle.pattern_query.specs.Cuts.{letter_ascii}
 use Rattle.pattern_query.specs.Texts.{is_letter}
 use Rattle.pattern_query.proofs.reader.place_at.Goals as goal

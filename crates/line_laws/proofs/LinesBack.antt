@@ -1,0 +1,156 @@
+-- Lines that are spelled are read.
+use Rattle.std.proofs.Common.{◌≡◌, ℕ, ◌⊎◌, inl, inr, Bool, true, false, eqb, ◌||◌, List, [], ◌∷◌, ◌++◌, drop, refl, sym, ap, ◌∙◌, append_assoc}
+use Rattle.std.specs.Prelude.{Option, Some, None, option_map}
+use Rattle.std.specs.List.{prefix_len}
+use Rattle.std.specs.Str.{is_utf8, chars}
+use Rattle.std.proofs.lemmas.Bool.Decides.{Decides-eqb}
+use Rattle.std.proofs.lemmas.Str.{is_utf8-from_IsUtf8}
+use Rattle.rdf_meaning.specs.Terms.{RdfTerm, RdfTriple}
+use Rattle.line_meaning.specs.Characters.{is_blank}
+use Rattle.line_meaning.specs.Lines.{Reading, Nothing, Adds, Deletes}
+use Rattle.line_meaning.specs.Grammar.{Each, SpellsIri, SpellsSubject, SpellsLiteral, SpellsObject, SpellsTriple, IsComment, SpellsNothing, SpellsChange, IsMark, SpellsMarked, CharactersRead, LineReads}
+use Rattle.line_meaning.specs.Reader.{◌>>=◌, after_blanks, after_char, is_label_or_dot, subject_at, iri_term_at, object_at, triple_at, is_end, last_triple, after_gap, marked, content, chars_reading, reading_of}
+use Rattle.line_laws.specs.LineLaws.{IsComplete}
+use Rattle.line_laws.proofs.Fronts.{past}
+use Rattle.line_laws.proofs.Tokens.{iri_term_back}
+use Rattle.line_laws.proofs.Back.{EndsTerm, at_space, at_tab, at_iri, at_dot, subject_back, object_back}
+use Rattle.line_laws.proofs.LinesRead.{regroup}
+
+blank_is : (c : ℕ) → is_blank c ≡ true → (c ≡ 32) ⊎ (c ≡ 9)
+blank_is c e = by_space (eqb c 32) refl e
+  where
+    by_space : (b : Bool) → eqb c 32 ≡ b → (b || eqb c 9) ≡ true → (c ≡ 32) ⊎ (c ≡ 9)
+    by_space true t h = inl ((Decides-eqb c 32).0 t)
+    by_space false t h = inr ((Decides-eqb c 9).0 h)
+
+-- behind blanks a term ends, where it ends without them
+ends_gap : (gap rest : List ℕ) → Each is_blank gap → EndsTerm rest → EndsTerm (gap ++ rest)
+ends_gap [] rest e ends = ends
+ends_gap (c ∷ cs) rest e ends = by_kind (blank_is c e.0)
+  where
+    by_kind : (c ≡ 32) ⊎ (c ≡ 9) → EndsTerm ((c ∷ cs) ++ rest)
+    by_kind (inl at) = at_space (cs ++ rest) (ap (λ (d : ℕ). d ∷ (cs ++ rest)) at)
+    by_kind (inr at) = at_tab (cs ++ rest) (ap (λ (d : ℕ). d ∷ (cs ++ rest)) at)
+
+iri_blank : (w rest : List ℕ) (t : RdfTerm) → SpellsIri w t → prefix_len is_blank (w ++ rest) ≡ 0
+iri_blank w rest t h = rw h.enclosed.whole refl
+
+iri_ends : (w rest : List ℕ) (t : RdfTerm) → SpellsIri w t → EndsTerm (w ++ rest)
+iri_ends w rest t h = at_iri ((h.enclosed.inner ++ 62 ∷ []) ++ rest) (ap (λ (x : List ℕ). x ++ rest) h.enclosed.whole)
+
+subject_blank : (w rest : List ℕ) (t : RdfTerm) → SpellsSubject w t → prefix_len is_blank (w ++ rest) ≡ 0
+subject_blank w rest t (inl h) = iri_blank w rest t h
+subject_blank w rest t (inr h) = rw h.whole refl
+
+literal_blank : (w rest : List ℕ) (t : RdfTerm) → SpellsLiteral w t → prefix_len is_blank (w ++ rest) ≡ 0
+literal_blank w rest t (inl h) = rw h.enclosed.whole refl
+literal_blank w rest t (inr (inl h)) = rw (h.whole, h.enclosed.whole) refl
+literal_blank w rest t (inr (inr h)) = rw (h.whole, h.enclosed.whole) refl
+
+object_blank : (w rest : List ℕ) (t : RdfTerm) → SpellsObject w t → prefix_len is_blank (w ++ rest) ≡ 0
+object_blank w rest t (inl h) = subject_blank w rest t h
+object_blank w rest t (inr h) = literal_blank w rest t h
+
+triple_back : (w rest : List ℕ) (triple : RdfTriple) → SpellsTriple w triple → prefix_len is_label_or_dot rest ≡ 0 → triple_at (w ++ rest) ≡ Some (triple, rest)
+unfolding triple_at
+triple_back w rest triple h z =
+    let dot : EndsTerm (46 ∷ rest) = at_dot rest refl z in
+    let y = h.after_o ++ 46 ∷ rest in
+    let x = h.after_p ++ (h.o ++ y) in
+    let so = subject_back h.s (h.after_s ++ (h.p ++ x)) triple.s h.subject (ends_gap h.after_s (h.p ++ x) h.after_s_blank (iri_ends h.p x triple.p h.predicate)) in
+    let gs = past is_blank h.after_s (h.p ++ x) h.after_s_blank (iri_blank h.p x triple.p h.predicate) in
+    let po = iri_term_back h.p x triple.p h.predicate in
+    let gp = past is_blank h.after_p (h.o ++ y) h.after_p_blank (object_blank h.o y triple.o h.object) in
+    let oo = object_back h.o y triple.o h.object (ends_gap h.after_o (46 ∷ rest) h.after_o_blank dot) in
+    let go = past is_blank h.after_o (46 ∷ rest) h.after_o_blank refl in
+    rw (h.whole, regroup h.s h.after_s h.p h.after_p h.o h.after_o rest, so, gs, po, gp, oo, go) refl
+
+comment_blank : (comment : List ℕ) → IsComment comment → prefix_len is_blank comment ≡ 0
+comment_blank comment (inl e) = rw e refl
+comment_blank comment (inr h) = rw h.1 refl
+
+comment_ends : (comment : List ℕ) → IsComment comment → is_end comment ≡ true
+comment_ends comment (inl e) = rw e refl
+comment_ends comment (inr h) = rw h.1 refl
+
+tail_no_label : (after comment : List ℕ) → Each is_blank after → IsComment comment → prefix_len is_label_or_dot (after ++ comment) ≡ 0
+tail_no_label [] comment e (inl h) = rw h refl
+tail_no_label [] comment e (inr h) = rw h.1 refl
+tail_no_label (c ∷ cs) comment e k = by_kind (blank_is c e.0)
+  where
+    by_kind : (c ≡ 32) ⊎ (c ≡ 9) → prefix_len is_label_or_dot ((c ∷ cs) ++ comment) ≡ 0
+    by_kind (inl at) = rw at refl
+    by_kind (inr at) = rw at refl
+
+last_back : (w after comment : List ℕ) (triple : RdfTriple) → SpellsTriple w triple → Each is_blank after → IsComment comment → last_triple (w ++ (after ++ comment)) ≡ Some triple
+unfolding last_triple
+last_back w after comment triple h a k =
+    rw (triple_back w (after ++ comment) triple h (tail_no_label after comment a k), past is_blank after comment a (comment_blank comment k), comment_ends comment k) refl
+
+gap_back : (first : ℕ) (others rest : List ℕ) → is_blank first ≡ true → Each is_blank others → prefix_len is_blank rest ≡ 0 → after_gap (first ∷ (others ++ rest)) ≡ Some rest
+unfolding after_gap
+gap_back first others rest f o z = rw (f, past is_blank others rest o z) refl
+
+triple_blank : (w rest : List ℕ) (triple : RdfTriple) → SpellsTriple w triple → prefix_len is_blank (w ++ rest) ≡ 0
+triple_blank w rest triple h = rw (h.whole, append_assoc h.s _ rest) (subject_blank h.s _ triple.s h.subject)
+
+-- a change behind a mark
+marked_back : (letter : ℕ) (mark cs : List ℕ) (triple : RdfTriple) (m : IsMark letter mark) (h : SpellsChange mark cs triple)
+    → (after_gap (m.first ∷ (m.others ++ (h.body ++ (h.after ++ h.comment)))) >>= last_triple) ≡ Some triple
+marked_back letter mark cs triple m h =
+    rw (gap_back m.first m.others (h.body ++ (h.after ++ h.comment)) m.first_blank m.others_blank (triple_blank h.body (h.after ++ h.comment) triple h.spelled))
+    (last_back h.body h.after h.comment triple h.spelled h.after_blank h.is_comment)
+
+content_add : (cs : List ℕ) (triple : RdfTriple) → (after_gap cs >>= last_triple) ≡ Some triple → content (65 ∷ cs) ≡ Some (Adds triple)
+unfolding content
+content_add cs triple e = ap (λ (o : Option RdfTriple). option_map Adds o) e
+
+content_delete : (cs : List ℕ) (triple : RdfTriple) → (after_gap cs >>= last_triple) ≡ Some triple → content (68 ∷ cs) ≡ Some (Deletes triple)
+unfolding content
+content_delete cs triple e = ap (λ (o : Option RdfTriple). option_map Deletes o) e
+
+content_iri : (cs : List ℕ) → content (60 ∷ cs) ≡ option_map Adds (last_triple (60 ∷ cs))
+unfolding content
+content_iri cs = refl
+
+content_blank : (cs : List ℕ) → content (95 ∷ cs) ≡ option_map Adds (last_triple (95 ∷ cs))
+unfolding content
+content_blank cs = refl
+
+content_comment : (comment : List ℕ) → IsComment comment → content comment ≡ Some Nothing
+unfolding content
+content_comment comment (inl e) = rw e refl
+content_comment comment (inr h) = rw h.1 refl
+
+-- a triple without a mark goes to the last case
+content_subject : (s rest : List ℕ) (t : RdfTerm) → SpellsSubject s t → content (s ++ rest) ≡ option_map Adds (last_triple (s ++ rest))
+content_subject s rest t (inl h) = rw h.enclosed.whole (content_iri ((h.enclosed.inner ++ 62 ∷ []) ++ rest))
+content_subject s rest t (inr h) = rw h.whole (content_blank (58 ∷ (h.label ++ rest)))
+
+content_plain : (w rest : List ℕ) (triple : RdfTriple) → SpellsTriple w triple → content (w ++ rest) ≡ option_map Adds (last_triple (w ++ rest))
+content_plain w rest triple h = rw (h.whole, append_assoc h.s _ rest) (content_subject h.s _ triple.s h.subject)
+
+characters_back : (cs : List ℕ) (r : Reading) → CharactersRead cs r → chars_reading cs ≡ Some r
+characters_back cs Nothing h =
+    rw (h.whole, past is_blank h.before h.comment h.before_blank (comment_blank h.comment h.is_comment)) (content_comment h.comment h.is_comment)
+characters_back cs (Adds triple) (inl h) =
+    rw (h.whole, past is_blank h.before (h.body ++ (h.after ++ h.comment)) h.before_blank (triple_blank h.body (h.after ++ h.comment) triple h.spelled))
+    (content_plain h.body (h.after ++ h.comment) triple h.spelled ∙ ap (λ (o : Option RdfTriple). option_map Adds o) (last_back h.body h.after h.comment triple h.spelled h.after_blank h.is_comment))
+characters_back cs (Adds triple) (inr x) =
+    let m = x.1 in
+    let h = x.2 in
+    let back = marked_back 65 x.0 cs triple m h in
+    let mark : x.0 ++ (h.body ++ (h.after ++ h.comment)) ≡ 65 ∷ m.first ∷ (m.others ++ (h.body ++ (h.after ++ h.comment))) = ap (λ (t : List ℕ). t ++ (h.body ++ (h.after ++ h.comment))) m.whole in
+    rw (h.whole, mark, past is_blank h.before (65 ∷ m.first ∷ (m.others ++ (h.body ++ (h.after ++ h.comment)))) h.before_blank refl)
+    (content_add (m.first ∷ (m.others ++ (h.body ++ (h.after ++ h.comment)))) triple back)
+characters_back cs (Deletes triple) x =
+    let m = x.1 in
+    let h = x.2 in
+    let back = marked_back 68 x.0 cs triple m h in
+    let mark : x.0 ++ (h.body ++ (h.after ++ h.comment)) ≡ 68 ∷ m.first ∷ (m.others ++ (h.body ++ (h.after ++ h.comment))) = ap (λ (t : List ℕ). t ++ (h.body ++ (h.after ++ h.comment))) m.whole in
+    rw (h.whole, mark, past is_blank h.before (68 ∷ m.first ∷ (m.others ++ (h.body ++ (h.after ++ h.comment)))) h.before_blank refl)
+    (content_delete (m.first ∷ (m.others ++ (h.body ++ (h.after ++ h.comment)))) triple back)
+
+pub complete : IsComplete
+unfolding reading_of
+complete line r h = rw (is_utf8-from_IsUtf8 line h.0) (characters_back (chars line) r h.1)

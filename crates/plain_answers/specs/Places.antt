@@ -1,5 +1,5 @@
 -- A solution's places as a mapping.
-use Rattle.std.specs.Prelude.{ℕ, List, Option, None, slice_index_or}
+use Rattle.std.specs.Prelude.{List, Option, None, slice_index_or}
 use Rattle.rdf_meaning.specs.Terms.{RdfTerm}
 use Rattle.query_meaning.specs.Mapping.{Mapping}
 

@@ -2,6 +2,7 @@
 
 ghost use Rattle.std.specs.Prelude.{◌≡◌, ◌++◌, ◌∷◌, [], OnOk, IfOk, map, length, option_copied, ◌≤◌};
 ghost use Rattle.std.specs.List.{flat_map};
+ghost use Rattle.query_meaning.specs.Leaf.{bound};
 ghost use Rattle.query_meaning.specs.AnswerText.{tabbed, row_text, header_text, answer_text, place_text};
 ghost use Rattle.run_meaning.specs.FittingText.{numbers_from, fitting_text};
 ghost use Rattle.db2rdf_top.specs.Rows.{row_at, sorted_matches};
@@ -110,6 +111,7 @@ fn write_rows(
 }
 
 // All variables below this number.
+#[tactic(auto, using(crate::proofs::Rows::number_pushed))]
 fn variables_below(alloc: Global, count: usize) -> Result<Vec<VarId>, AllocError>
     requires { count ≤ 3 }
     ensures { IfOk result (λ variables. variables.items ≡ numbers_from 0 count) }
@@ -132,5 +134,6 @@ pub(crate) fn answer(
     let shown = variables_below(alloc, query.names.len())?;
     let mut triples = present(alloc, changes)?;
     keep_sorted_matches(&query.pattern, &shown, &mut triples)?;
-    write_rows(alloc, query, &shown, &triples)
+    let text = write_rows(alloc, query, &shown, &triples)?;
+    Ok(text)
 }

@@ -1,6 +1,6 @@
 //! Reading the named files, and judging what they hold.
 
-ghost use Rattle.std.specs.Prelude.{◌≡◌, ◌≤◌, ◌<◌, IfOk, IfErr, IfSome, List, ℕ, Ok, Err, length};
+ghost use Rattle.std.specs.Prelude.{◌≡◌, ◌≤◌, ◌<◌, IfOk, IfErr, IfSome, List, ℕ, Ok, Err, length, ◌⊎◌};
 ghost use Rattle.store_io.specs.Reading.{CountsFaults};
 ghost use Rattle.run_meaning.specs.Outcome.{judged_data, judged_query};
 ghost use Rattle.db2rdf_top.specs.Stops.{Stops};

@@ -89,5 +89,6 @@ pub(crate) fn keep_sorted_matches(
     ensures { OnOk result (triples.new.items ≡ sorted_matches pattern.now shown.now triples.old.items) }
 {
     triples.retain(|triple| is_match(pattern, triple));
-    triples.sort_by(|a, b| order_rows(pattern, shown, a, b))
+    triples.sort_by(|a, b| order_rows(pattern, shown, a, b))?;
+    Ok(())
 }

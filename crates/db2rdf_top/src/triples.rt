@@ -43,6 +43,7 @@ fn added(alloc: Global, notes: IndexMap<Triple, bool>) -> Result<Vec<Triple>, Al
 }
 
 /// The triples that are present after the changes, each once, in order of first naming.
+#[tactic(auto, using(crate::proofs::Notes::added_are_present))]
 pub(crate) fn present(alloc: Global, changes: Vec<Change>) -> Result<Vec<Triple>, AllocError>
     ensures { IfOk result (λ triples. triples.items ≡ present changes.items) }
 {

@@ -1,5 +1,5 @@
 -- Equal terms and triples: the tests say it.
-use Rattle.std.specs.Prelude.{◌≡◌, Bool, true, refl, IsTrue}
+use Rattle.std.specs.Prelude.{◌≡◌, ◌++◌, Bool, true, refl, IsTrue}
 use Rattle.std.specs.Cmp.{IsEquivalence, first_so, second_so}
 use Rattle.std.specs.Hash as fed
 use Rattle.std.specs.Bool.{Decides, one_answer}
@@ -78,3 +78,7 @@ same_triple_equiv = decided_equiv same_triple same_triple-Decides
 -- the same terms have one text
 pub same_term_hash : (a b : RdfTerm) → IsTrue (same_term a b) → fed.str a.text ≡ fed.str b.text
 same_term_hash a b h = ap (λ (t : RdfTerm). fed.str t.text) (same_term-is a b h)
+
+-- the same triples have one subject and one object
+pub same_triple_hash : (a b : RdfTriple) → IsTrue (same_triple a b) → fed.str a.s.text ++ fed.str a.o.text ≡ fed.str b.s.text ++ fed.str b.o.text
+same_triple_hash a b h = ap (λ (t : RdfTriple). fed.str t.s.text ++ fed.str t.o.text) (same_triple-is a b h)

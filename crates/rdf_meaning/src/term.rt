@@ -1,9 +1,9 @@
 //! Terms and triples.
 
-ghost use Rattle.std.specs.Prelude.{◌≡◌, IfOk, IsTrue};
+ghost use Rattle.std.specs.Prelude.{◌≡◌, ◌++◌, IfOk};
 ghost use Rattle.std.specs.Hash as fed;
 ghost use Rattle.std.specs.Cmp as comparisons;
-ghost use Rattle.rdf_meaning.specs.TermLaws.{same_term_equiv, same_triple_equiv, same_term_hash};
+ghost use Rattle.rdf_meaning.specs.TermLaws.{same_term_equiv, same_triple_equiv, same_term_hash, same_triple_hash};
 ghost use Rattle.rdf_meaning.specs.Terms.{same_term, same_triple};
 
 use crate::kind::TermKind;
@@ -114,4 +114,16 @@ impl PartialEq for Triple {
 
 impl Eq for Triple {
     ghost laws = { same_triple_equiv };
+}
+
+// Subject and object tell most triples apart.
+impl Hash for Triple {
+    ghost hash_input = { λ t. fed.str t.s.text ++ fed.str t.o.text };
+
+    ghost respects_eq = { same_triple_hash };
+
+    fn hash<H: Hasher>(&self, state: &mut H) {
+        self.s.hash(state);
+        self.o.hash(state);
+    }
 }

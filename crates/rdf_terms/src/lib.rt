@@ -6,6 +6,8 @@ mod id;
 mod number;
 mod side;
 mod spelling;
+#[cfg(test)]
+mod tests;
 mod value;
 
 pub use comparing::order;

@@ -1,5 +1,5 @@
 -- The text that fits the work.
-use Rattle.std.specs.Prelude.{◌≡◌, ℕ, zero, suc, ◌++◌, List, [], ◌∷◌, length, take, Option, Some, None, IfSome, false}
+use Rattle.std.specs.Prelude.{◌≡◌, ◌+◌, ℕ, zero, suc, ◌++◌, List, [], ◌∷◌, length, take, Option, Some, None, IfSome, false}
 use Rattle.line_meaning.specs.Present.{present}
 use Rattle.query_meaning.specs.declared.modifiers.Modifiers.{Modifiers}
 use Rattle.query_meaning.specs.Leaf.{leaf}
@@ -10,7 +10,7 @@ use Rattle.run_meaning.specs.Outcome.{Work}
 -- so many numbers, rising from this one
 abbrev pub numbers_from : ℕ → ℕ → List ℕ
 numbers_from first zero = []
-numbers_from first (suc count) = first ∷ numbers_from (suc first) count
+numbers_from first (suc count) = first ∷ numbers_from (first + 1) count
 
 -- all variables are shown, in order of their numbers, and nothing else is asked
 abbrev pub all_shown : ℕ → Modifiers

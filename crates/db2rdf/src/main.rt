@@ -1,0 +1,44 @@
+//! Answers queries over files of triples.
+#![tactic(auto)]
+
+use db2rdf_top::{Status, run};
+use std::env;
+use std::io::ErrorKind;
+use std::process::ExitCode;
+use store_io::{RealShelf, RealSink, Sink};
+
+const USAGE: &[u8] =
+    b"db2rdf: usage: db2rdf query|show|plan [options] DATA QUERY; stats [options] DATA; exec [--pieces N] FILE; drill [options] N SEED\n";
+
+// The words after the program's name.
+fn words(rt: &HostRuntime) -> Result<Vec<String>, Status> {
+    let mut words = Vec::new(rt.alloc());
+    match env::args(rt) {
+        Ok(args) => {
+            for word in args.skip(1) {
+                words.push(word)?;
+            }
+            Ok(words)
+        }
+        Err(e) if e.kind() == ErrorKind::OutOfMemory => Err(Status::NoMemory),
+        Err(_) => Err(Status::Usage),
+    }
+}
+
+fn main(rt: HostRuntime) -> ExitCode {
+    let alloc = rt.alloc();
+    let mut shelf = RealShelf::new(alloc, &rt);
+    let mut out = RealSink::output(&rt);
+    let mut err = RealSink::error(&rt);
+    let status = match words(&rt) {
+        Ok(words) => run(alloc, &words, &mut shelf, &mut out, &mut err),
+        Err(status) => {
+            let _ = match &status {
+                Status::NoMemory => err.put(b"db2rdf: no memory\n"),
+                _ => err.put(USAGE),
+            };
+            status
+        }
+    };
+    ExitCode::from(status.code())
+}

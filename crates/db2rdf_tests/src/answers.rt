@@ -1,0 +1,37 @@
+use crate::runs::{run_on, shelf};
+use std::test::Fail;
+
+#[test]
+fn queries_of_one_pattern_are_answered(rt: HostRuntime) -> Result<(), Fail> {
+    let alloc = rt.alloc();
+    let ab = "<u:a> <u:p> <u:b> .\n";
+    let cases = [
+        (
+            ab,
+            "SELECT * WHERE { ?s <u:p> ?o }",
+            "?s\t?o\n<u:a>\t<u:b>\n",
+        ),
+        ("", "SELECT * WHERE { ?s <u:p> ?o }", "?s\t?o\n"),
+        (
+            "<u:a> <u:p> <u:b> .\n<u:c> <u:p> <u:c> .\n",
+            "SELECT * { ?x <u:p> ?x }",
+            "?x\n<u:c>\n",
+        ),
+        (ab, "SELECT * { ?s <u:none> ?o }", "?s\t?o\n"),
+        // Repeated triples count once, and lines are ordered by the shown terms.
+        (
+            "<u:b> <u:p> <u:c> .\r\n\n<u:a> <u:p> <u:d> . \t\n<u:b> <u:p> <u:c> .",
+            "SELECT*{?s?p?o}",
+            "?s\t?p\t?o\n<u:a>\t<u:p>\t<u:d>\n<u:b>\t<u:p>\t<u:c>\n",
+        ),
+        (ab, "SELECT * { <u:a> <u:p> <u:b> }", "\n\n"),
+    ];
+    for (data, query, want) in cases {
+        let mut shelf = shelf(alloc, data, query)?;
+        let ran = run_on(alloc, &mut shelf, &["query", "d", "q"], 1000, 1000)?;
+        assert_eq!(rt; ran.code, 0, "{query}");
+        assert_eq!(rt; ran.out.bytes(), want.as_bytes(), "{query}");
+        assert_eq!(rt; ran.err.bytes().len(), 0, "{query}");
+    }
+    Ok(())
+}

@@ -1,0 +1,4 @@
+pub mod Tabs
+pub mod Notes
+pub mod Rows
+pub mod Ends

@@ -1,3 +1,4 @@
 pub mod Fills
 pub mod Equations
 pub mod Trees
+pub mod Ordered

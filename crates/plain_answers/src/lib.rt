@@ -5,11 +5,13 @@
 mod compare;
 mod joins;
 mod leaf;
+mod rows;
 mod solution;
 mod tree;
 mod truth;
 
 pub use leaf::leaf_solutions;
+pub use rows::{Row, sorted_rows};
 pub use solution::Solution;
 pub use tree::solutions;
 pub use truth::{truth_over, value_over};

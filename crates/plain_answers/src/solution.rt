@@ -26,7 +26,7 @@ impl Model for Solution {
     ghost invariant = { λ s. length s.places.items ≡ 64 };
 }
 
-fn copy_place(alloc: Global, place: Option<&Term>) -> Result<Option<Term>, AllocError>
+pub(crate) fn copy_place(alloc: Global, place: Option<&Term>) -> Result<Option<Term>, AllocError>
     ensures { IfOk result (λ copy. copy ≡ option_copied place.entry) }
 {
     match place {

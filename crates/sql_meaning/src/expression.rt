@@ -4,7 +4,7 @@ use table_meaning::Kind;
 
 /// An expression over the rows of the sources in front of it.
 #[cycle(sql)]
-#[derive(Drop)]
+#[derive(Debug, Drop)]
 pub enum SqlExpr {
     /// A source's alias and a column of the source.
     Name(Text, Text),
@@ -29,7 +29,7 @@ pub enum SqlExpr {
 
 /// A branch of CASE.
 #[cycle(sql)]
-#[derive(Drop)]
+#[derive(Debug, Drop)]
 pub struct Branch {
     pub test: SqlExpr,
     pub value: SqlExpr,

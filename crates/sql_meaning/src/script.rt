@@ -3,27 +3,27 @@ use rdf_meaning::Text;
 use sqlite_items::Items;
 
 /// Named steps, each of which may use those before it, and the body whose rows are the answer.
-#[derive(Drop)]
+#[derive(Debug, Drop)]
 pub struct Script {
     pub steps: Items<Step>,
     pub last: Body,
 }
 
 /// One step of WITH.
-#[derive(Drop)]
+#[derive(Debug, Drop)]
 pub struct Step {
     pub name: Text,
     pub body: Body,
 }
 
 /// One SELECT, or several joined by UNION ALL.
-#[derive(Drop)]
+#[derive(Debug, Drop)]
 pub struct Body {
     pub cores: Items<Core>,
 }
 
 /// One SELECT.
-#[derive(Drop)]
+#[derive(Debug, Drop)]
 pub struct Core {
     pub distinct: bool,
     pub items: Items<Item>,
@@ -39,21 +39,21 @@ pub struct Core {
 }
 
 /// A column of a SELECT's rows.
-#[derive(Drop)]
+#[derive(Debug, Drop)]
 pub struct Item {
     pub expr: SqlExpr,
     pub name: Text,
 }
 
 /// A table or an earlier step, under the name by which expressions call it.
-#[derive(Drop)]
+#[derive(Debug, Drop)]
 pub struct Source {
     pub table: Text,
     pub alias: Text,
 }
 
 /// A JOIN or a LEFT JOIN.
-#[derive(Drop)]
+#[derive(Debug, Drop)]
 pub struct JoinTo {
     pub left: bool,
     pub source: Source,
@@ -61,7 +61,7 @@ pub struct JoinTo {
 }
 
 /// A key of ORDER BY.
-#[derive(Drop)]
+#[derive(Debug, Drop)]
 pub struct SqlKey {
     pub expr: SqlExpr,
     /// Whether DESC stands behind it.

@@ -5,3 +5,4 @@ pub mod Scripts
 pub mod Grammar
 pub mod Texts
 pub mod Canon
+pub mod Levels

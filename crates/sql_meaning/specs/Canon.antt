@@ -1,5 +1,5 @@
 -- The canonical spelling of a script.
-use Rattle.std.specs.Prelude.{Bool, true, false, not, ◌&&◌, ◌||◌, ◌==◌, if◌then◌else◌, List, [], ◌∷◌, ◌++◌, ℕ, ℤ, pos, map, Option, Some, None}
+use Rattle.std.specs.Prelude.{Bool, true, false, not, ◌&&◌, ◌||◌, ◌==◌, if◌then◌else◌, List, [], ◌∷◌, ◌++◌, ℕ, pos, map, Option, Some, None}
 use Rattle.std.specs.Fmt.{signed_decimal}
 use Rattle.table_meaning.specs.declared.kind.Kind.{Kind as ColumnKind}
 use Rattle.table_meaning.specs.declared.kind.Kind.TheVariants as column
@@ -11,7 +11,7 @@ use Rattle.sql_meaning.specs.declared.token.Token.TheVariants as t
 use Rattle.sql_meaning.specs.declared.expression.SqlExpr.{SqlExpr, fold-SqlExpr}
 use Rattle.sql_meaning.specs.declared.expression.SqlExpr.TheOpen as o
 use Rattle.sql_meaning.specs.declared.expression.SqlExpr.TheOpen.{SqlExpr-F}
-use Rattle.sql_meaning.specs.declared.expression.Branch.{Branch, Branch-F}
+use Rattle.sql_meaning.specs.declared.expression.Branch.{Branch-F}
 use Rattle.sql_meaning.specs.declared.script.Script.{Script}
 use Rattle.sql_meaning.specs.declared.script.Step.{Step}
 use Rattle.sql_meaning.specs.declared.script.Body.{Body}

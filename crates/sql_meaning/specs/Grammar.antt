@@ -1,8 +1,8 @@
 -- The grammar of scripts, by its rules.
 -- A symbol of expressions says inside how many expressions its own stands. A limit tells at which of these numbers an expression may stand.
-use Rattle.std.specs.Prelude.{Bool, true, false, if◌then◌else◌, IsTrue, List, [], ◌∷◌, ◌++◌, ◌≡◌, ◌<◌, length, map, ℕ, ℤ, pos, negsuc, zero, suc, Option, Some, None, nat_lt}
-use Rattle.grammar_meaning.specs.Grammar.{Form, nothing, one, call, ◌⨾◌, ◌∣◌, many, maybe, Node, Nil, Leaf, Pair, Made, Grammar, Reads, Front}
-use Rattle.sql_meaning.specs.Kinds.{Kind, a_mark, a_name, a_count, an_int, a_text, broken, kind, is, among}
+use Rattle.std.specs.Prelude.{Bool, true, false, if◌then◌else◌, List, [], ◌∷◌, ℕ, pos, suc, Option, Some, None, nat_lt}
+use Rattle.grammar_meaning.specs.Grammar.{Form, one, call, ◌⨾◌, ◌∣◌, many, maybe, Node, Nil, Leaf, Pair, Made, Grammar}
+use Rattle.sql_meaning.specs.Kinds.{Kind, a_mark, a_name, a_count, an_int, a_text, kind, is, among}
 use Rattle.sql_meaning.specs.Scripts.{most_levels}
 use Rattle.table_meaning.specs.declared.kind.Kind.{Kind as ColumnKind}
 use Rattle.table_meaning.specs.declared.kind.Kind.TheVariants as column

@@ -1,5 +1,5 @@
 -- The kinds of tokens that the grammar tells apart.
-use Rattle.std.proofs.Common.{Bool, true, false, IsTrue, ℕ, ℤ, pos, negsuc, List, [], ◌∷◌, ◌≡◌, refl, nat_eq, Some, if◌then◌else◌}
+use Rattle.std.proofs.Common.{Bool, false, IsTrue, ℕ, ℤ, pos, negsuc, List, [], ◌∷◌, ◌≡◌, refl, nat_eq, Some, if◌then◌else◌}
 use Rattle.std.specs.Prelude.{nat_lt}
 use Rattle.grammar_meaning.specs.Outcome.{or, every_of, at}
 use Rattle.grammar_meaning.specs.Laws.{every_at}

@@ -1,5 +1,5 @@
 -- A fold over an expression by its first level.
-use Rattle.std.proofs.Common.{◌≡◌, refl, sym, ap, ◌∙◌, List, [], ◌∷◌, ℕ, ℤ, Bool}
+use Rattle.std.proofs.Common.{◌≡◌, sym, ap, ◌∙◌, List, ℕ, ℤ, Bool}
 use Rattle.std.specs.Prelude.{map}
 use Rattle.table_meaning.specs.declared.kind.Kind.{Kind}
 use Rattle.sql_meaning.specs.declared.expression.SqlExpr.{SqlExpr, fold-SqlExpr, fold-roll-SqlExpr}

@@ -1,5 +1,5 @@
 -- Capital words and signs, and how they are written.
-use Rattle.std.specs.Prelude.{Bool, true, false, ◌==◌, ◌||◌, if◌then◌else◌, List, [], ◌∷◌, ℕ, codes, Option, Some, None, bytes_eq}
+use Rattle.std.specs.Prelude.{if◌then◌else◌, List, [], ◌∷◌, ℕ, codes, Option, Some, None, bytes_eq}
 use Rattle.sql_meaning.specs.declared.token.Mark.{Mark}
 use Rattle.sql_meaning.specs.declared.token.Mark.TheVariants.{With, As, Union, All, Select, Distinct, From, Where, Order, By, Limit, Offset, Join, Left, On, Desc, True, False, Cast, Null, Int, Text, Truth, And, Or, Not, Is, Case, When, Then, Else, End, Coalesce, Open, Close, Comma, Dot, Equal, Less}
 

@@ -1,10 +1,10 @@
 -- What a script has: its depth, its primary references, and the forms that its text can have.
-use Rattle.std.specs.Prelude.{Bool, true, false, not, ◌&&◌, ◌||◌, nat_le, nat_lt, List, [], ◌∷◌, ℕ, ℤ, pos, negsuc, suc, ◌+◌, ◌-◌, ◌≤◌, ◌^◌, max, min, length, map, IsTrue, Option, Some, None, is_some, is_none, bytes_eq, codes, if◌then◌else◌}
+use Rattle.std.specs.Prelude.{Bool, true, false, not, ◌&&◌, ◌||◌, nat_le, nat_lt, List, [], ◌∷◌, ℕ, suc, ◌+◌, ◌-◌, ◌^◌, max, min, length, map, Option, Some, None, is_none, bytes_eq, codes, if◌then◌else◌}
 use Rattle.sql_meaning.specs.Tokens.{is_name}
 use Rattle.sql_meaning.specs.declared.expression.SqlExpr.{SqlExpr, fold-SqlExpr}
 use Rattle.sql_meaning.specs.declared.expression.SqlExpr.TheOpen as o
 use Rattle.sql_meaning.specs.declared.expression.SqlExpr.TheOpen.{SqlExpr-F}
-use Rattle.sql_meaning.specs.declared.expression.Branch.{Branch, Branch-F}
+use Rattle.sql_meaning.specs.declared.expression.Branch.{Branch-F}
 use Rattle.sql_meaning.specs.declared.script.Script.{Script}
 use Rattle.sql_meaning.specs.declared.script.Step.{Step}
 use Rattle.sql_meaning.specs.declared.script.Body.{Body}

@@ -1,5 +1,5 @@
 -- How a text is cut into tokens.
-use Rattle.std.specs.Prelude.{Bool, true, false, not, ◌==◌, ◌&&◌, ◌||◌, nat_le, nat_lt, if◌then◌else◌, List, [], ◌∷◌, ◌++◌, ℕ, ℤ, pos, negsuc, zero, suc, ◌+◌, ◌<◌, ◌≤◌, ◌≡◌, ◌^◌, length, take, drop, IsTrue, Option, Some, None, is_none, bytes_eq, IsUtf8, ◌⊎◌}
+use Rattle.std.specs.Prelude.{Bool, true, false, ◌==◌, ◌&&◌, ◌||◌, nat_le, nat_lt, if◌then◌else◌, List, [], ◌∷◌, ℕ, ℤ, pos, negsuc, suc, ◌+◌, ◌≡◌, ◌^◌, length, take, drop, Option, Some, None, is_none, bytes_eq, IsUtf8}
 use Rattle.std.specs.Fmt.{signed_decimal}
 use Rattle.std.specs.Str.Parse.{signed_digits_value}
 use Rattle.rdf_meaning.specs.Characters.{is_letter, is_digit}

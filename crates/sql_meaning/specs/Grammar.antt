@@ -1,6 +1,6 @@
 -- The grammar of scripts, by its rules.
 -- A symbol of expressions says inside how many expressions its own stands. A limit tells at which of these numbers an expression may stand.
-use Rattle.std.specs.Prelude.{Bool, true, false, if◌then◌else◌, List, [], ◌∷◌, ℕ, pos, suc, Option, Some, None, nat_lt}
+use Rattle.std.specs.Prelude.{Bool, true, false, if◌then◌else◌, List, [], ◌∷◌, ℕ, pos, ◌+◌, Option, Some, None, nat_lt}
 use Rattle.grammar_meaning.specs.Grammar.{Form, one, call, ◌⨾◌, ◌∣◌, many, maybe, Node, Nil, Leaf, Pair, Made, Grammar}
 use Rattle.sql_meaning.specs.Kinds.{Kind, a_mark, a_name, a_count, an_int, a_text, kind, is, among}
 use Rattle.sql_meaning.specs.Scripts.{most_levels}
@@ -50,6 +50,7 @@ pub data Symbol : Type 0 where
   Inner : ℕ → Symbol
   More : Separator → ℕ → Symbol
   Cases : ℕ → Symbol
+  Branches : ℕ → Symbol
   OneBranch : ℕ → Symbol
   Firsts : ℕ → Symbol
 
@@ -80,6 +81,10 @@ Limit = ℕ → Bool
 abbrev pub forms : ℕ → Form Symbol Kind
 forms n = call Simple ∣ (call NullOf ∣ ((mark m.Open ⨾ call (Inner n) ⨾ mark m.Close) ∣ (call (Cases n) ∣ call (Firsts n))))
 
+-- what stands in brackets behind a first expression
+abbrev pub tails : ℕ → Form Symbol Kind
+tails n = (mark m.Equal ⨾ call (Expr n)) ∣ ((mark m.Less ⨾ call (Expr n)) ∣ (call (More sep.And n) ∣ (call (More sep.Or n) ∣ (mark m.Is ⨾ mark m.Null))))
+
 abbrev pub rule : Limit → Symbol → Form Symbol Kind
 rule c WholeScript = maybe (call Steps) ⨾ call OneBody
 rule c Steps = mark m.With ⨾ call OneStep ⨾ many (mark m.Comma ⨾ call OneStep)
@@ -100,15 +105,14 @@ rule c KeyList = mark m.Order ⨾ mark m.By ⨾ call OneKey ⨾ many (mark m.Com
 rule c OneKey = call (Expr 0) ⨾ maybe (mark m.Desc)
 rule c Most = mark m.Limit ⨾ count
 rule c Skip = mark m.Offset ⨾ count
-rule c (Expr n) = if c n then forms (suc n) else one (λ k. false)
+rule c (Expr n) = if c n then forms (n + 1) else one (λ k. false)
 rule c Simple = (name ⨾ mark m.Dot ⨾ name) ∣ (number ∣ (string ∣ (mark m.True ∣ mark m.False)))
 rule c NullOf = mark m.Cast ⨾ mark m.Open ⨾ mark m.Null ⨾ mark m.As ⨾ (mark m.Int ∣ (mark m.Text ∣ mark m.Truth)) ⨾ mark m.Close
 -- what stands in brackets
-rule c (Inner n) =
-    (mark m.Not ⨾ call (Expr n))
-    ∣ (call (Expr n) ⨾ ((mark m.Equal ⨾ call (Expr n)) ∣ ((mark m.Less ⨾ call (Expr n)) ∣ (call (More sep.And n) ∣ (call (More sep.Or n) ∣ (mark m.Is ⨾ mark m.Null))))))
+rule c (Inner n) = (mark m.Not ⨾ call (Expr n)) ∣ (call (Expr n) ⨾ tails n)
 rule c (More s n) = mark (separator_mark s) ⨾ call (Expr n) ⨾ many (mark (separator_mark s) ⨾ call (Expr n))
-rule c (Cases n) = mark m.Case ⨾ call (OneBranch n) ⨾ many (call (OneBranch n)) ⨾ mark m.Else ⨾ call (Expr n) ⨾ mark m.End
+rule c (Cases n) = mark m.Case ⨾ call (Branches n) ⨾ mark m.Else ⨾ call (Expr n) ⨾ mark m.End
+rule c (Branches n) = call (OneBranch n) ⨾ many (call (OneBranch n))
 rule c (OneBranch n) = mark m.When ⨾ call (Expr n) ⨾ mark m.Then ⨾ call (Expr n)
 rule c (Firsts n) = mark m.Coalesce ⨾ mark m.Open ⨾ call (Expr n) ⨾ call (More sep.Comma n) ⨾ mark m.Close
 
@@ -134,6 +138,7 @@ pub data Tree : Type 0 where
   an_expr : SqlExpr → Tree
   expr_list : Separator → List SqlExpr → Tree
   a_branch : Branch → Tree
+  branch_list : List Branch → Tree
 
 abbrev pub Parsed : Type 0
 Parsed = Node Placed Tree
@@ -279,6 +284,10 @@ abbrev pub condition_of : Parsed → Option SqlExpr
 condition_of (Made (an_expr e)) = Some e
 condition_of _ = None
 
+abbrev pub branches_of : Parsed → List Branch
+branches_of (Made (branch_list bs)) = bs
+branches_of _ = []
+
 abbrev pub is_there : Parsed → Bool
 is_there Nil = false
 is_there _ = true
@@ -339,7 +348,8 @@ build NullOf (Pair a (Pair b (Pair c (Pair d (Pair k e))))) = an_expr (v.Null (k
 build (Inner n) (Pair (Leaf p) e) = an_expr (v.Not (expr_in e))
 build (Inner n) (Pair e more) = an_expr (joined (expr_in e) more)
 build (More s n) (Pair x (Pair e more)) = expr_list s (expr_in e ∷ parts_in more)
-build (Cases n) (Pair c (Pair b (Pair more (Pair e (Pair last d))))) = an_expr (v.Case (branch_in b ∷ branches_in more) (expr_in last))
+build (Cases n) (Pair c (Pair bs (Pair e (Pair last d)))) = an_expr (v.Case (branches_of bs) (expr_in last))
+build (Branches n) (Pair b more) = branch_list (branch_in b ∷ branches_in more)
 build (OneBranch n) (Pair w (Pair x (Pair h y))) = a_branch (record { test = expr_in x; value = expr_in y })
 build (Firsts n) (Pair c (Pair o (Pair e (Pair more x)))) = an_expr (v.First (expr_in e ∷ exprs_in more))
 build _ _ = no_tree

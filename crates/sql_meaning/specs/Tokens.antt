@@ -41,9 +41,12 @@ abbrev pub is_within : ℤ → Bool
 is_within (pos n) = nat_lt n (2 ^ 127)
 is_within (negsuc n) = nat_lt n (2 ^ 127)
 
+abbrev pub int_shown : ℤ → List ℕ → Option ℤ
+int_shown n bs = if is_within n && bytes_eq (signed_decimal n) bs then Some n else None
+
 -- the number within 128 bits whose decimal digits these are: no leading zero, and `-` in front of a negative one
 abbrev pub int_of : List ℕ → Option ℤ
-int_of bs = let n = signed_digits_value 10 bs in if is_within n && bytes_eq (signed_decimal n) bs then Some n else None
+int_of bs = int_shown (signed_digits_value 10 bs) bs
 
 -- what a text between quotes holds, and how many bytes it takes with the quote behind it
 pub record Quoted : Type 0 where

@@ -3,7 +3,6 @@ use Rattle.std.specs.Prelude.{List, [], ◌∷◌, ◌≡◌, ◌≤◌, ℕ, le
 use Rattle.grammar_meaning.specs.Grammar.{call, Made, Reads, Front}
 use Rattle.grammar_meaning.specs.Parts.{BreaksFirst}
 use Rattle.sql_meaning.specs.Tokens.{IsCut}
-use Rattle.sql_meaning.specs.Scripts.{depth_of, most_levels}
 use Rattle.sql_meaning.specs.Grammar.{WholeScript, a_script, full, shallow}
 use Rattle.sql_meaning.specs.declared.token.Placed.{Placed}
 use Rattle.sql_meaning.specs.declared.script.Script.{Script}
@@ -46,5 +45,4 @@ pub record BreaksAt (bs : List ℕ) (at : ℕ) : Type 0 where
 pub record SpellsOnly (bs : List ℕ) (s : Script) : Type 0 where
   pub spells : Spells bs s
   pub only : (x : Script) → Spells bs x → x ≡ s
-  pub levels : depth_of s ≤ most_levels
   pub no_deep : HasDeepToken bs → ⊥

@@ -1,0 +1,6 @@
+pub mod Schemas
+pub mod Tables
+pub mod Names
+pub mod Ints
+pub mod CellText
+pub mod TableText

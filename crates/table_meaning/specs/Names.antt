@@ -1,0 +1,29 @@
+-- Names of tables, columns, steps and aliases, in tables as text and in the SQL dialect (this project's own).
+use Rattle.std.specs.Prelude.{ℕ, Bool, false, ◌&&◌, ◌||◌, ◌==◌, not, nat_le, List, [], ◌∷◌, length, codes}
+use Rattle.std.specs.List.{list_any, list_all}
+use Rattle.std.specs.Str.{bytes_eq}
+use Rattle.rdf_meaning.specs.Characters.{is_letter, is_digit}
+
+-- the words of the dialect, in capitals, which are no names
+unfoldable pub capital_words : List (List ℕ)
+capital_words =
+    codes "WITH" ∷ codes "AS" ∷ codes "UNION" ∷ codes "ALL" ∷ codes "SELECT" ∷ codes "DISTINCT" ∷ codes "FROM" ∷ codes "WHERE"
+    ∷ codes "ORDER" ∷ codes "BY" ∷ codes "LIMIT" ∷ codes "OFFSET" ∷ codes "JOIN" ∷ codes "LEFT" ∷ codes "ON" ∷ codes "DESC"
+    ∷ codes "TRUE" ∷ codes "FALSE" ∷ codes "CAST" ∷ codes "NULL" ∷ codes "INT" ∷ codes "TEXT" ∷ codes "TRUTH" ∷ codes "AND"
+    ∷ codes "OR" ∷ codes "NOT" ∷ codes "IS" ∷ codes "CASE" ∷ codes "WHEN" ∷ codes "THEN" ∷ codes "ELSE" ∷ codes "END"
+    ∷ codes "COALESCE" ∷ []
+
+abbrev pub is_capital_word : List ℕ → Bool
+is_capital_word text = list_any (bytes_eq text) capital_words
+
+-- an ASCII letter, a digit or `_`
+abbrev pub is_name_byte : ℕ → Bool
+is_name_byte b = is_letter b || is_digit b || b == 95
+
+abbrev pub begins_with_letter : List ℕ → Bool
+begins_with_letter [] = false
+begins_with_letter (b ∷ bs) = is_letter b
+
+-- a letter and up to 63 letters, digits or `_`, and no capital word
+unfoldable pub is_name : List ℕ → Bool
+is_name text = begins_with_letter text && (list_all is_name_byte text && (nat_le (length text) 64 && not (is_capital_word text)))

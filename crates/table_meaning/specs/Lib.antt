@@ -4,3 +4,4 @@ pub mod Names
 pub mod Ints
 pub mod CellText
 pub mod TableText
+pub mod TableLaws

@@ -38,6 +38,10 @@ pub record NamedTable : Type 0 where
   pub schema : List Column
   pub rows : List (List Cell)
 
+-- rows under a name
+abbrev pub named : List ℕ → RowTable → NamedTable
+named name table = record { name = name; schema = table.schema; rows = table.rows }
+
 abbrev pub is_table : NamedTable → Bool
 is_table table = is_schema table.schema && are_rows table.schema table.rows
 

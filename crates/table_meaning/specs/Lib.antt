@@ -5,3 +5,4 @@ pub mod Ints
 pub mod CellText
 pub mod TableText
 pub mod TableLaws
+pub mod IntLaws

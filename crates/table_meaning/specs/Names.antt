@@ -4,17 +4,27 @@ use Rattle.std.specs.List.{list_any, list_all}
 use Rattle.std.specs.Str.{bytes_eq}
 use Rattle.rdf_meaning.specs.Characters.{is_letter, is_digit}
 
--- the words of the dialect, in capitals, which are no names
-unfoldable pub capital_words : List (List ℕ)
-capital_words =
-    codes "WITH" ∷ codes "AS" ∷ codes "UNION" ∷ codes "ALL" ∷ codes "SELECT" ∷ codes "DISTINCT" ∷ codes "FROM" ∷ codes "WHERE"
-    ∷ codes "ORDER" ∷ codes "BY" ∷ codes "LIMIT" ∷ codes "OFFSET" ∷ codes "JOIN" ∷ codes "LEFT" ∷ codes "ON" ∷ codes "DESC"
-    ∷ codes "TRUE" ∷ codes "FALSE" ∷ codes "CAST" ∷ codes "NULL" ∷ codes "INT" ∷ codes "TEXT" ∷ codes "TRUTH" ∷ codes "AND"
-    ∷ codes "OR" ∷ codes "NOT" ∷ codes "IS" ∷ codes "CASE" ∷ codes "WHEN" ∷ codes "THEN" ∷ codes "ELSE" ∷ codes "END"
-    ∷ codes "COALESCE" ∷ []
+-- words of the dialect, in capitals, which are no names: those of steps, bodies and what they take from,
+unfoldable pub source_words : List (List ℕ)
+source_words = codes "WITH" ∷ codes "AS" ∷ codes "UNION" ∷ codes "ALL" ∷ codes "SELECT" ∷ codes "DISTINCT" ∷ codes "FROM" ∷ codes "WHERE" ∷ []
+
+-- of joins, order and limits,
+unfoldable pub order_words : List (List ℕ)
+order_words = codes "ORDER" ∷ codes "BY" ∷ codes "LIMIT" ∷ codes "OFFSET" ∷ codes "JOIN" ∷ codes "LEFT" ∷ codes "ON" ∷ codes "DESC" ∷ []
+
+-- of values and kinds,
+unfoldable pub value_words : List (List ℕ)
+value_words = codes "TRUE" ∷ codes "FALSE" ∷ codes "CAST" ∷ codes "NULL" ∷ codes "INT" ∷ codes "TEXT" ∷ codes "TRUTH" ∷ codes "COALESCE" ∷ []
+
+-- and of tests and choices
+unfoldable pub test_words : List (List ℕ)
+test_words = codes "AND" ∷ codes "OR" ∷ codes "NOT" ∷ codes "IS" ∷ codes "CASE" ∷ codes "WHEN" ∷ codes "THEN" ∷ codes "ELSE" ∷ codes "END" ∷ []
+
+abbrev pub is_among : List (List ℕ) → List ℕ → Bool
+is_among words text = list_any (bytes_eq text) words
 
 abbrev pub is_capital_word : List ℕ → Bool
-is_capital_word text = list_any (bytes_eq text) capital_words
+is_capital_word text = is_among source_words text || (is_among order_words text || (is_among value_words text || is_among test_words text))
 
 -- an ASCII letter, a digit or `_`
 abbrev pub is_name_byte : ℕ → Bool

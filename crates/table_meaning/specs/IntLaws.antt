@@ -1,16 +1,17 @@
 -- A text of the form of an int spells the number that is read, and no other text does.
-use Rattle.std.specs.Prelude.{◌≡◌, ℕ, ℤ, pos, negsuc, neg_ℤ, ◌+◌, ◌*◌, ◌/◌, ◌%◌, ◌^◌, ◌<◌, ◌≤◌, ◌⊎◌, Bool, true, false, ◌&&◌, ◌||◌, not, nat_le, nat_lt, List, [], ◌∷◌, ◌++◌, length, Some, None, refl}
+use Rattle.std.specs.Prelude.{◌≡◌, FitsSigned, ℕ, ℤ, pos, negsuc, neg_ℤ, ◌+◌, ◌*◌, ◌/◌, ◌%◌, ◌^◌, ◌<◌, ◌≤◌, ◌⊎◌, Bool, true, false, ◌&&◌, ◌||◌, not, nat_le, nat_lt, List, [], ◌∷◌, ◌++◌, length, Some, None, refl}
 use Rattle.std.specs.Cmp.{first_so, second_so}
 use Rattle.std.specs.Char.{digit_value}
 use Rattle.std.specs.Fmt.{decimal}
-use Rattle.std.specs.Int.{IsInRange}
+use Rattle.std.specs.Int.{IsInRange, w128}
 use Rattle.std.specs.List.{list_all}
-use Rattle.std.specs.Str.Parse.{AllDigits, digits_value, digits_value_after, signed_digits_value}
+use Rattle.std.specs.Str.Parse.{AllDigits, digits_value, digits_value_after, signed_digits_value, IsNumeral, without_leading_sign}
+use Rattle.std.specs.Str.{IsAscii, IsUtf8}
 use Rattle.std.proofs.Common.{sym, ap, ◌∙◌, subst, suc, zero, get_or, cond, eqb, inl, inr, append_assoc, append-nil, arith, lit<}
-use Rattle.std.proofs.lemmas.Bool.{cases_Bool, false≢true, not-true, ltb-true, leb-true, le-leb, eqb-true, ne_eqb}
-use Rattle.std.proofs.lemmas.Fmt.{decimal_digit, decimal_step_wide, decimal_by_steps_wide, decimal_is_IsNumeral_wide}
+use Rattle.std.proofs.lemmas.Bool.{cases_Bool, false≢true, not-true, ltb-true, lt-ltb, leb-true, le-leb, eqb-true, ne_eqb}
+use Rattle.std.proofs.lemmas.Fmt.{decimal_digit, decimal_step_wide, decimal_by_steps_wide, decimal_is_IsNumeral_wide, IsAscii-from_digits}
 use Rattle.std.proofs.lemmas.List.Folds.{list_all-append}
-use Rattle.std.proofs.lemmas.Str.{digit_value_digit}
+use Rattle.std.proofs.lemmas.Str.{digit_value_digit, IsUtf8-from_ascii}
 use Rattle.std.proofs.lemmas.Str.Parse.{IsDigitsTest, IsNumeralModel, numerals_by_value, digit_from_value}
 use Rattle.rdf_meaning.specs.Characters.{is_digit}
 use Rattle.table_meaning.specs.Ints.{is_wide_int, int_text, SpellsInt, is_digits, begins_with_zero, is_int_form, int_of}
@@ -165,3 +166,57 @@ int_of-spells (b ∷ bs) z h =
     let form : is_int_form (b ∷ bs) ≡ true = first_so _ _ taken.0 in
     let wide : is_wide_int (signed_digits_value 10 (b ∷ bs)) ≡ true = second_so (is_int_form (b ∷ bs)) _ taken.0 in
     (read_spells b bs (minus_cases b) form wide ∙ ap int_text taken.1, subst (λ t. is_wide_int t ≡ true) taken.1 wide)
+
+pub is_wide_int-fits : (z : ℤ) → FitsSigned w128 z → is_wide_int z ≡ true
+is_wide_int-fits (pos n) f = lt-ltb n (2 ^ 127) (f.sfits)
+is_wide_int-fits (negsuc n) f = lt-ltb n (2 ^ 127) (f.sfits)
+
+pub FitsSigned-wide : (z : ℤ) → is_wide_int z ≡ true → FitsSigned w128 z
+FitsSigned-wide (pos n) h = record { sfits = ltb-true n (2 ^ 127) h }
+FitsSigned-wide (negsuc n) h = record { sfits = ltb-true n (2 ^ 127) h }
+
+numeral : (ds : List ℕ) → is_digits ds ≡ true → IsNumeral 10 ds
+numeral [] h = absurd (false≢true h)
+numeral (c ∷ cs) h =
+    let all : list_all is_digit (c ∷ cs) ≡ true = (let d : is_digit c ≡ true = first_so _ _ h in rw d (first_so _ _ (second_so (is_digit c) _ h))) in
+    (omega arith, own.to (c ∷ cs) all)
+
+minus_digits : (b : ℕ) (bs : List ℕ) → b ≡ 45 → is_int_form (b ∷ bs) ≡ true → is_digits bs ≡ true
+minus_digits b bs e form = first_so _ _ (subst (λ x. is_int_form (x ∷ bs) ≡ true) e form)
+
+-- digits behind a sign are a numeral
+form_numeral : (b : ℕ) (bs : List ℕ) → (b ≡ 45) ⊎ (eqb b 45 ≡ false) → is_int_form (b ∷ bs) ≡ true → IsNumeral 10 (without_leading_sign (b ∷ bs))
+form_numeral b bs (inl e) form = rw e (numeral bs (minus_digits b bs e form))
+form_numeral b bs (inr other) form =
+    let digits : is_digits (b ∷ bs) ≡ true = rw other at form in
+    let low : 48 ≤ b = (digit_range b (first_so _ _ digits)).0 in
+    let plus : eqb b 43 ≡ false = ne_eqb b 43 (λ e. omega arith) in
+    rw (other, plus) (numeral (b ∷ bs) digits)
+
+ascii_minus : (ds : List ℕ) → IsAscii ds → IsAscii (45 ∷ ds)
+ascii_minus ds a zero = omega arith
+ascii_minus ds a (suc i) = a i
+
+form_ascii : (b : ℕ) (bs : List ℕ) → (b ≡ 45) ⊎ (eqb b 45 ≡ false) → is_int_form (b ∷ bs) ≡ true → IsAscii (b ∷ bs)
+form_ascii b bs (inl e) form = subst (λ x. IsAscii (x ∷ bs)) (sym e) (ascii_minus bs (IsAscii-from_digits bs (numeral bs (minus_digits b bs e form)).1))
+form_ascii b bs (inr other) form = let digits : is_digits (b ∷ bs) ≡ true = rw other at form in IsAscii-from_digits (b ∷ bs) (numeral (b ∷ bs) digits).1
+
+-- an int is text
+pub IsUtf8-int_form : (text : List ℕ) → is_int_form text ≡ true → IsUtf8 text
+IsUtf8-int_form [] form = absurd (false≢true form)
+IsUtf8-int_form (b ∷ bs) form = IsUtf8-from_ascii (b ∷ bs) (form_ascii b bs (minus_cases b) form)
+
+-- what a parser of 128 bits reads of a text in the form of an int
+pub int_of-parsed : (text : List ℕ) (z : ℤ) → is_int_form text ≡ true → FitsSigned w128 (signed_digits_value 10 text) → z ≡ signed_digits_value 10 text → Some z ≡ int_of text
+unfolding int_of
+int_of-parsed text z form fits is = rw (is, form, is_wide_int-fits (signed_digits_value 10 text) fits) refl
+
+-- and where it reads nothing
+pub int_of-unparsed : (text : List ℕ) → is_int_form text ≡ true → ¬ (IsNumeral 10 (without_leading_sign text) × FitsSigned w128 (signed_digits_value 10 text)) → None ≡ int_of text
+unfolding int_of
+int_of-unparsed [] form never = absurd (false≢true form)
+int_of-unparsed (b ∷ bs) form never = by (cases_Bool (is_wide_int (signed_digits_value 10 (b ∷ bs))))
+  where
+    by : (is_wide_int (signed_digits_value 10 (b ∷ bs)) ≡ true) ⊎ (is_wide_int (signed_digits_value 10 (b ∷ bs)) ≡ false) → None ≡ int_of (b ∷ bs)
+    by (inl wide) = absurd (never (form_numeral b bs (minus_cases b) form, FitsSigned-wide _ wide))
+    by (inr wide) = rw (form, wide) refl

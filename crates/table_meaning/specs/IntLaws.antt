@@ -220,3 +220,8 @@ int_of-unparsed (b ∷ bs) form never = by (cases_Bool (is_wide_int (signed_digi
     by : (is_wide_int (signed_digits_value 10 (b ∷ bs)) ≡ true) ⊎ (is_wide_int (signed_digits_value 10 (b ∷ bs)) ≡ false) → None ≡ int_of (b ∷ bs)
     by (inl wide) = absurd (never (form_numeral b bs (minus_cases b) form, FitsSigned-wide _ wide))
     by (inr wide) = rw (form, wide) refl
+
+-- what is read as an int has the form of one
+pub int_of-form : (text : List ℕ) (z : ℤ) → int_of text ≡ Some z → is_int_form text ≡ true
+unfolding int_of
+int_of-form text z h = first_so _ _ (chosen (is_int_form text && is_wide_int (signed_digits_value 10 text)) (signed_digits_value 10 text) z h).0

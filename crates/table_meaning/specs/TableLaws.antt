@@ -49,7 +49,7 @@ map-push : (tables : List NamedTable) (table : NamedTable) → map table_name (t
 map-push [] table = refl
 map-push (other ∷ tables) table = ap (λ (names : List (List ℕ)). other.name ∷ names) (map-push tables table)
 
-any_name : (tables : List NamedTable) (name : List ℕ) → list_any (bytes_eq name) (map table_name tables) ≡ has_table tables name
+pub any_name : (tables : List NamedTable) (name : List ℕ) → list_any (bytes_eq name) (map table_name tables) ≡ has_table tables name
 any_name [] name = refl
 any_name (table ∷ tables) name = ap (λ b. bytes_eq name table.name || b) (any_name tables name)
 

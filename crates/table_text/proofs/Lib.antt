@@ -11,3 +11,4 @@ pub mod RowLaws
 pub mod HeadLaws
 pub mod Sound
 pub mod Complete
+pub mod Written

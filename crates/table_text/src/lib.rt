@@ -9,6 +9,8 @@ mod quoted;
 mod refusal;
 mod rows;
 mod tables;
+mod writer;
 
 pub use refusal::TableRefusal;
 pub use tables::{ReadTables, read_tables};
+pub use writer::write_tables;

@@ -1,0 +1,11 @@
+pub mod Maps
+pub mod RowSums
+pub mod Sums
+pub mod Held
+pub mod RowsKept
+pub mod Kept
+pub mod Changes
+pub mod Back
+pub mod Undone
+pub mod TakenBack
+pub mod InColumns

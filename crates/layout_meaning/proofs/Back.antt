@@ -1,13 +1,13 @@
 -- Placing an item and taking it back.
-use Rattle.std.proofs.Common.{◌≡◌, ℕ, zero, suc, ◌+◌, ◌≤◌, ◌<◌, ◌==◌, nat_eq, ◌||◌, Bool, true, false, cond, if◌then◌else◌, is_some, List, [], ◌∷◌, ◌++◌, Option, Some, None, length, replicate, arith, refl, sym, ap, subst, ◌∙◌, Ordering, Less, Equal, Greater}
+use Rattle.std.proofs.Common.{◌≡◌, ℕ, zero, suc, ◌<◌, ◌==◌, nat_eq, ◌||◌, Bool, true, false, cond, if◌then◌else◌, is_some, List, [], ◌∷◌, ◌++◌, Option, Some, None, replicate, arith, refl, ap, ◌∙◌, Ordering, Less, Equal, Greater}
 use Rattle.std.specs.List.{list_any, AllByRecursion}
 use Rattle.std.specs.Ordering.{nat_cmp, is_eq, match_ordering}
 use Rattle.std.specs.BTreeMap.{is_at, insert_entry}
 use Rattle.std.specs.Map.{lookup, set_value, remove_entry}
 use Rattle.std.specs.Set.{remove_key}
-use Rattle.layout_meaning.specs.Side.{Value, One, Many, Pair, Item, SideState, or_empty, rows_of, elements_of, find_in_row, find, or_else, all_free, keep, write_in_row, write, is_none, free_at, put_at, first_free, first_of, put_or, place_new, put_by, with_rows}
+use Rattle.layout_meaning.specs.Side.{Value, Pair, find_in_row, find, or_else, all_free, keep, write_in_row, write, free_at, put_at, first_free, first_of, put_or, place_new}
 use Rattle.layout_meaning.proofs.RowSums.{first_free-is, free_row}
-use Rattle.layout_meaning.proofs.Maps.{at_true, at_itself}
+use Rattle.layout_meaning.proofs.Maps.{at_itself}
 
 -- maps
 pub remove-insert : {X : Type 0} (n : ℕ) (w : X) (es : List (ℕ × X)) → lookup (is_at (nat_cmp n)) es ≡ None → remove_entry (is_at (nat_cmp n)) (insert_entry nat_cmp es n w) ≡ es

@@ -1,6 +1,6 @@
 -- What a step of placing or taking does, by cases.
 use Rattle.std.proofs.Common.{◌≡◌, ℕ, ◌+◌, ◌≤◌, Bool, true, false, if◌then◌else◌, List, [], ◌∷◌, Option, Some, None, arith, refl}
-use Rattle.layout_meaning.specs.Side.{Value, One, Many, Pair, Item, SideState, rows_of, elements_of, find, is_held, place_by, placed, left_over, take_by, taken}
+use Rattle.layout_meaning.specs.Side.{Value, One, Many, Item, SideState, rows_of, elements_of, find, is_held, place_by, placed, left_over, take_by, taken}
 use Rattle.std.specs.Set.{remove_key}
 use Rattle.std.proofs.Common.{nat_eq}
 

@@ -1,11 +1,11 @@
 -- The columns of the predicates after a change.
-use Rattle.std.proofs.Common.{◌≡◌, ℕ, zero, suc, ◌+◌, ◌≤◌, ◌<◌, ◌==◌, nat_eq, ◌||◌, Bool, true, false, cond, if◌then◌else◌, is_some, List, [], ◌∷◌, ◌++◌, Option, Some, None, length, replicate, arith, refl, sym, ap, subst, ◌∙◌}
+use Rattle.std.proofs.Common.{◌≡◌, ℕ, zero, suc, ◌<◌, ◌==◌, nat_eq, ◌||◌, Bool, true, false, if◌then◌else◌, is_some, List, [], ◌∷◌, Option, Some, None, length, replicate, arith, refl, sym, ap, subst, ◌∙◌}
 use Rattle.std.specs.List.{list_any, AllByRecursion}
 use Rattle.std.specs.Ordering.{nat_cmp}
 use Rattle.std.specs.BTreeMap.{is_at}
 use Rattle.std.specs.Map.{lookup}
 use Rattle.std.specs.Set.{remove_key}
-use Rattle.layout_meaning.specs.Side.{Value, One, Many, Pair, Item, SideState, or_empty, rows_of, elements_of, find_in_row, find, all_free, keep, write_in_row, write, free_at, put_at, first_free, first_of, put_or, place_new, with_rows, written, is_held, place_by, placed, left_over, take_by, taken}
+use Rattle.layout_meaning.specs.Side.{Value, One, Many, Pair, Item, SideState, or_empty, rows_of, elements_of, find_in_row, find, all_free, write_in_row, write, free_at, put_at, first_free, first_of, put_or, place_new, with_rows, written, is_held, place_by, placed, left_over, take_by, taken}
 use Rattle.layout_meaning.specs.Sound.{pair_at, RowKeeps, KeepsTo}
 use Rattle.layout_meaning.proofs.RowsKept.{All-found, All-with_rows}
 
@@ -68,8 +68,13 @@ keeps-write candidates p new (r ∷ rs) same h = by (keeps-write candidates p ne
   where
     by : AllByRecursion (RowKeeps candidates) (write p new rs) → (b c : Bool) → AllByRecursion (RowKeeps candidates) (if b then (if c then rs else write_in_row p new r ∷ rs) else r ∷ write p new rs)
     by ih true true = h.1
-    by ih true false = (record { in_columns = at-write (λ (d : ℕ) (q : Pair). list_any (nat_eq d) (candidates q.pred) ≡ true) p new r h.0.in_columns
-      (λ (d : ℕ) (q z : Pair) (a : list_any (nat_eq d) (candidates q.pred) ≡ true) (e : q.pred ≡ p) (f : new ≡ Some z). subst (λ (n : ℕ). list_any (nat_eq d) (candidates n) ≡ true) (e ∙ sym (same z f)) a) }, h.1)
+    by ih true false = (
+      record {
+        in_columns = at-write (λ (d : ℕ) (q : Pair). list_any (nat_eq d) (candidates q.pred) ≡ true) p new r h.0.in_columns
+            (λ (d : ℕ) (q z : Pair) (a : list_any (nat_eq d) (candidates q.pred) ≡ true) (e : q.pred ≡ p) (f : new ≡ Some z). subst (λ (n : ℕ). list_any (nat_eq d) (candidates n) ≡ true) (e ∙ sym (same z f)) a);
+      },
+      h.1,
+    )
     by ih false c = (h.0, ih)
 
 keeps-rows_of : (candidates : ℕ → List ℕ) (e : ℕ) (ents : List (ℕ × List (List (Option Pair)))) → AllByRecursion (λ (en : ℕ × List (List (Option Pair))). AllByRecursion (RowKeeps candidates) en.1) ents → AllByRecursion (RowKeeps candidates) (rows_of ents e)
@@ -93,8 +98,10 @@ no_pair : (x : Item) (z : Pair) → None ≡ Some z → z.pred ≡ x.pred
 no_pair x z e = cc
 
 keeps_by : (k : ℕ) (candidates : ℕ → List ℕ) (x : Item) (s : SideState) (o : Option Value) → KeepsTo candidates s → 0 < length (candidates x.pred) → KeepsTo candidates (place_by o k (candidates x.pred) x s)
-keeps_by k candidates x s None h some = record { rows = keeps-with_rows candidates s.entities x.entity (place_new k (candidates x.pred) (record { pred = x.pred; value = One x.value }) (rows_of s.entities x.entity)) h.rows
-  (keeps-place_new k candidates (record { pred = x.pred; value = One x.value }) (rows_of s.entities x.entity) some (keeps-rows_of candidates x.entity s.entities h.rows)) }
+keeps_by k candidates x s None h some = record {
+  rows = keeps-with_rows candidates s.entities x.entity (place_new k (candidates x.pred) (record { pred = x.pred; value = One x.value }) (rows_of s.entities x.entity)) h.rows
+      (keeps-place_new k candidates (record { pred = x.pred; value = One x.value }) (rows_of s.entities x.entity) some (keeps-rows_of candidates x.entity s.entities h.rows));
+}
 keeps_by k candidates x s (Some (One w)) h some = record { rows = keeps-written candidates x (Some (record { pred = x.pred; value = Many s.next })) s (same_pair x (Many s.next)) h }
 keeps_by k candidates x s (Some (Many n)) h some = record { rows = h.rows }
 

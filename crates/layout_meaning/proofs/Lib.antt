@@ -1,3 +1,4 @@
+pub mod Candidates
 pub mod Maps
 pub mod RowSums
 pub mod Sums

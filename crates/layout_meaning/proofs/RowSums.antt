@@ -1,7 +1,7 @@
 -- Sums over the pairs of rows after a change.
-use Rattle.std.proofs.Common.{◌≡◌, ℕ, zero, suc, ◌+◌, ◌≤◌, ◌<◌, ◌==◌, Bool, true, false, cond, if◌then◌else◌, is_some, List, [], ◌∷◌, Option, Some, None, length, replicate, arith, refl, sym, ap, subst, ◌∙◌}
+use Rattle.std.proofs.Common.{◌≡◌, ℕ, zero, suc, ◌+◌, ◌<◌, ◌==◌, Bool, true, false, if◌then◌else◌, is_some, List, [], ◌∷◌, Option, Some, None, replicate, arith, refl, ap, ◌∙◌}
 use Rattle.bags.specs.Bag.{total}
-use Rattle.layout_meaning.specs.Side.{Value, One, Many, Pair, find_in_row, find, or_else, all_free, keep, write_in_row, write, is_none, free_at, put_at, first_free, first_of, put_or, place_new}
+use Rattle.layout_meaning.specs.Side.{Value, Pair, find_in_row, find, or_else, all_free, keep, write_in_row, write, free_at, put_at, first_free, first_of, put_or, place_new}
 
 pub all_free-total : (g : Option Pair → ℕ) (r : List (Option Pair)) → g None ≡ 0 → all_free r ≡ true → total g r ≡ 0
 all_free-total g [] z h = refl

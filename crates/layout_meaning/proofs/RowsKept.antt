@@ -1,12 +1,12 @@
 -- What a change keeps of the rows of one entity, and of all entries of a map.
-use Rattle.std.proofs.Common.{◌≡◌, ℕ, zero, suc, ◌+◌, ◌≤◌, ◌<◌, ◌==◌, nat_eq, ◌||◌, Bool, true, false, cond, if◌then◌else◌, is_some, List, [], ◌∷◌, ◌++◌, Option, Some, None, length, replicate, arith, refl, sym, ap, subst, ◌∙◌, Ordering, Less, Equal, Greater}
+use Rattle.std.proofs.Common.{◌≡◌, ℕ, zero, suc, ◌+◌, ◌≤◌, ◌<◌, ◌==◌, nat_eq, ◌||◌, Bool, true, false, cond, if◌then◌else◌, is_some, List, [], ◌∷◌, ◌++◌, Option, Some, None, length, replicate, arith, refl, ap, subst, ◌∙◌, Ordering, Less, Equal, Greater}
 use Rattle.std.specs.List.{list_any, AllByRecursion}
 use Rattle.std.proofs.lemmas.List.{length_push}
-use Rattle.std.specs.Ordering.{nat_cmp, is_eq, match_ordering}
+use Rattle.std.specs.Ordering.{nat_cmp, match_ordering}
 use Rattle.std.specs.BTreeMap.{is_at, insert_entry}
 use Rattle.std.specs.Map.{lookup, set_value, remove_entry}
 use Rattle.bags.specs.Bag.{total}
-use Rattle.layout_meaning.specs.Side.{Value, One, Many, Pair, Item, or_empty, rows_of, find_in_row, find, or_else, all_free, keep, write_in_row, write, is_none, free_at, put_at, first_free, first_of, put_or, place_new, put_by, with_rows}
+use Rattle.layout_meaning.specs.Side.{Value, Pair, or_empty, rows_of, find_in_row, find, or_else, all_free, write_in_row, write, free_at, put_at, first_free, first_of, put_or, place_new, put_by, with_rows}
 use Rattle.layout_meaning.specs.Sound.{one_if, has_pred, times, AreSoundRows, IsSoundList}
 use Rattle.layout_meaning.proofs.RowSums.{write-total, place_new-total, first_free-is, free_row}
 use Rattle.layout_meaning.proofs.Sums.{total-append}
@@ -152,7 +152,7 @@ place_new-sound k cs pair rs first h none = record {
   some = some-place_new k cs pair rs;
   wide = wide-place_new k cs pair rs h.wide;
   full = full-place_new k cs pair rs first h.full;
-  once = λ (q : ℕ). at_most pair.pred q (total (total (has_pred q)) (place_new k cs pair rs)) (λ (p : ℕ). total (total (has_pred p)) rs) (h.once q) (find-none pair.pred rs none) (place_new-total (has_pred q) k cs pair rs refl first)
+  once = λ (q : ℕ). at_most pair.pred q (total (total (has_pred q)) (place_new k cs pair rs)) (λ (p : ℕ). total (total (has_pred p)) rs) (h.once q) (find-none pair.pred rs none) (place_new-total (has_pred q) k cs pair rs refl first);
 }
 
 pub wide-write : (k p : ℕ) (new : Option Pair) (rs : List (List (Option Pair))) → AllByRecursion (λ (r : List (Option Pair)). length r ≡ k) rs → AllByRecursion (λ (r : List (Option Pair)). length r ≡ k) (write p new rs)
@@ -179,7 +179,7 @@ write-sound k p new v rs h found less some = record {
   some = some;
   wide = wide-write k p new rs h.wide;
   full = full-write p new rs h.full;
-  once = λ (q : ℕ). (let a = write-total (has_pred q) p new v rs refl found in let b = less q in let c = h.once q in omega arith)
+  once = λ (q : ℕ). (let a = write-total (has_pred q) p new v rs refl found in let b = less q in let c = h.once q in omega arith);
 }
 
 -- lists
@@ -195,7 +195,7 @@ times-none v (x ∷ xs) h = by (times-none v xs) (nat_eq v x) refl (x == v) refl
 pub more-sound : (v : ℕ) (xs : List ℕ) → IsSoundList xs → list_any (nat_eq v) xs ≡ false → IsSoundList (xs ++ v ∷ [])
 more-sound v xs h none = record {
   two = longer xs h.two;
-  once = λ (w : ℕ). at_most v w (times w (xs ++ v ∷ [])) (λ (z : ℕ). times z xs) (h.once w) (times-none v xs none) (omega (arith, total-append (λ (z : ℕ). one_if (z == w)) xs (v ∷ [])))
+  once = λ (w : ℕ). at_most v w (times w (xs ++ v ∷ [])) (λ (z : ℕ). times z xs) (h.once w) (times-none v xs none) (omega (arith, total-append (λ (z : ℕ). one_if (z == w)) xs (v ∷ [])));
 }
   where
     longer : (xs : List ℕ) → 2 ≤ length xs → 2 ≤ length (xs ++ v ∷ [])
@@ -204,7 +204,7 @@ more-sound v xs h none = record {
 pub two-sound : (v w : ℕ) → (nat_eq v w || false) ≡ false → IsSoundList (w ∷ v ∷ [])
 two-sound v w apart = record {
   two = omega arith;
-  once = λ (z : ℕ). at_most v z (times z (w ∷ v ∷ [])) (λ (z : ℕ). times z (w ∷ [])) (small z) (times-none v (w ∷ []) apart) (omega arith)
+  once = λ (z : ℕ). at_most v z (times z (w ∷ v ∷ [])) (λ (z : ℕ). times z (w ∷ [])) (small z) (times-none v (w ∷ []) apart) (omega arith);
 }
   where
     small : (z : ℕ) → one_if (w == z) + 0 ≤ 1

@@ -1,13 +1,13 @@
 -- Sums over all pairs of a side, and what a change of lists leaves of them.
-use Rattle.std.proofs.Common.{◌≡◌, ℕ, zero, suc, ◌+◌, ◌≤◌, ◌<◌, ◌==◌, nat_eq, ◌||◌, Bool, true, false, cond, if◌then◌else◌, List, [], ◌∷◌, ◌++◌, map, Option, Some, None, arith, refl, sym, ap, subst, ◌∙◌}
+use Rattle.std.proofs.Common.{◌≡◌, ℕ, ◌+◌, ◌==◌, nat_eq, ◌||◌, Bool, true, false, cond, List, [], ◌∷◌, ◌++◌, map, Option, Some, None, arith, refl, sym, ap}
 use Rattle.std.specs.List.{flat_map, list_any}
 use Rattle.std.specs.Ordering.{nat_cmp}
 use Rattle.std.specs.BTreeMap.{is_at}
 use Rattle.std.specs.Map.{lookup}
 use Rattle.std.specs.Set.{remove_key}
 use Rattle.bags.specs.Bag.{total}
-use Rattle.layout_meaning.specs.Side.{Value, One, Many, Pair, Item, SideState, or_empty, rows_of, elements_of, values_of, find, write, put_by, with_rows, written, pair_items, items}
-use Rattle.layout_meaning.specs.Sound.{one_if, over, names, value_names, numbered, times}
+use Rattle.layout_meaning.specs.Side.{Value, One, Many, Pair, Item, SideState, or_empty, rows_of, values_of, find, write, put_by, with_rows, written, pair_items, items}
+use Rattle.layout_meaning.specs.Sound.{one_if, over, names, value_names, numbered}
 use Rattle.layout_meaning.proofs.Maps.{set_value-total, remove_entry-total, insert_entry-total, at_true}
 use Rattle.layout_meaning.proofs.RowSums.{write-total}
 
@@ -42,8 +42,8 @@ total-pair_items f lists e (Some p) = total-map f (λ (v : ℕ). record { entity
 pub total-items : (f : Item → ℕ) (s : SideState) → total f (items s) ≡ over (weight f s.lists) s.entities
 total-items f s =
     total-flat_map f (λ (en : ℕ × List (List (Option Pair))). flat_map (flat_map (pair_items s.lists en.0)) en.1) (λ (en : ℕ × List (List (Option Pair))). total (total (weight f s.lists en.0)) en.1)
-      (λ (en : ℕ × List (List (Option Pair))). total-flat_map f (flat_map (pair_items s.lists en.0)) (total (weight f s.lists en.0))
-        (λ (r : List (Option Pair)). total-flat_map f (pair_items s.lists en.0) (weight f s.lists en.0) (total-pair_items f s.lists en.0) r) en.1) s.entities
+    (λ (en : ℕ × List (List (Option Pair))). total-flat_map f (flat_map (pair_items s.lists en.0)) (total (weight f s.lists en.0))
+    (λ (r : List (Option Pair)). total-flat_map f (pair_items s.lists en.0) (weight f s.lists en.0) (total-pair_items f s.lists en.0) r) en.1) s.entities
 
 pub total-remove_key : (f : ℕ → ℕ) (v : ℕ) (xs : List ℕ) → list_any (nat_eq v) xs ≡ true → total f (remove_key (nat_eq v) xs) + f v ≡ total f xs
 total-remove_key f v [] h = cc
@@ -95,8 +95,8 @@ pub over-frame : (f : Item → ℕ) (n : ℕ) (lists new : List (ℕ × List ℕ
     → (ents : List (ℕ × List (List (Option Pair)))) → over (λ e. names n) ents ≡ 0 → over (weight f lists) ents ≡ over (weight f new) ents
 over-frame f n lists new same ents z =
     total-frame (λ (en : ℕ × List (List (Option Pair))). total (total (names n)) en.1) (λ (en : ℕ × List (List (Option Pair))). total (total (weight f lists en.0)) en.1) (λ (en : ℕ × List (List (Option Pair))). total (total (weight f new en.0)) en.1)
-      (λ (en : ℕ × List (List (Option Pair))). total-frame (total (names n)) (total (weight f lists en.0)) (total (weight f new en.0))
-        (λ (r : List (Option Pair)). total-frame (names n) (weight f lists en.0) (weight f new en.0) (weight-frame f n lists new same en.0) r) en.1) ents z
+    (λ (en : ℕ × List (List (Option Pair))). total-frame (total (names n)) (total (weight f lists en.0)) (total (weight f new en.0))
+    (λ (r : List (Option Pair)). total-frame (names n) (weight f lists en.0) (weight f new en.0) (weight-frame f n lists new same en.0) r) en.1) ents z
 
 -- a number that no list has, and one that a list has
 pub numbered-none : (n : ℕ) (lists : List (ℕ × List ℕ)) → numbered n lists ≡ 0 → lookup (is_at (nat_cmp n)) lists ≡ None

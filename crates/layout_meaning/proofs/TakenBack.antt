@@ -1,9 +1,9 @@
 -- Placing an item and taking it back.
-use Rattle.std.proofs.Common.{◌≡◌, ℕ, zero, suc, ◌+◌, ◌≤◌, ◌<◌, ◌==◌, nat_eq, ◌||◌, Bool, true, false, cond, if◌then◌else◌, List, [], ◌∷◌, ◌++◌, Option, Some, None, length, arith, refl, sym, ap, subst, ◌∙◌}
-use Rattle.std.specs.List.{list_any, AllByRecursion}
+use Rattle.std.proofs.Common.{◌≡◌, ℕ, ◌+◌, ◌≤◌, ◌<◌, nat_eq, ◌||◌, Bool, true, false, if◌then◌else◌, List, [], ◌∷◌, ◌++◌, Option, Some, None, length, arith, refl, sym, ap, subst, ◌∙◌}
+use Rattle.std.specs.List.{list_any}
 use Rattle.std.specs.Ordering.{nat_cmp}
 use Rattle.std.specs.BTreeMap.{is_at, insert_entry}
-use Rattle.std.specs.Map.{lookup, set_value, remove_entry}
+use Rattle.std.specs.Map.{set_value, remove_entry}
 use Rattle.std.specs.Set.{remove_key}
 use Rattle.layout_meaning.specs.Side.{Value, One, Many, Pair, Item, SideState, or_empty, rows_of, elements_of, found_values, find, write, place_new, with_rows, first_of, is_held, place_by, placed, left_over, take_by, taken}
 use Rattle.layout_meaning.specs.Sound.{IsSound, IsSoundList}
@@ -39,6 +39,7 @@ two-any v w = by (nat_eq v w)
     last : (b : Bool) → b ≡ true → (b || false) ≡ true
     last true h = refl
     last false h = h
+
     by : (b : Bool) → (b || (nat_eq v v || false)) ≡ true
     by true = refl
     by false = last (nat_eq v v) (itself v)
@@ -70,9 +71,9 @@ back_by k columns x s sound first None h free =
     let r : rows_of ents x.entity ≡ new = rows-with_rows s.entities x.entity new some in
     let f : find x.pred (rows_of ents x.entity) ≡ Some (One x.value) = ap (find x.pred) r ∙ find-place_new k x.pred (One x.value) columns rows first h in
     let e : with_rows ents x.entity (write x.pred None (rows_of ents x.entity)) ≡ s.entities =
-      ap (λ (l : List (List (Option Pair))). with_rows ents x.entity (write x.pred None l)) r
-      ∙ ap (λ (l : List (List (Option Pair))). with_rows ents x.entity l) (write-place_new k x.pred (One x.value) columns rows first (rows_fit k x.entity s.entities sound.rows).full h)
-      ∙ with_back k s.entities x.entity new sound.rows some in
+    ap (λ (l : List (List (Option Pair))). with_rows ents x.entity (write x.pred None l)) r
+    ∙ ap (λ (l : List (List (Option Pair))). with_rows ents x.entity l) (write-place_new k x.pred (One x.value) columns rows first (rows_fit k x.entity s.entities sound.rows).full h)
+    ∙ with_back k s.entities x.entity new sound.rows some in
     taken-found x (state ents s.lists s.next) (Some (One x.value)) f (any-last x.value []) ∙ ap (λ (en : List (ℕ × List (List (Option Pair)))). state en s.lists s.next) e
 back_by k columns x s sound first (Some (One w)) h free =
     let rows : List (List (Option Pair)) = rows_of s.entities x.entity in
@@ -88,9 +89,9 @@ back_by k columns x s sound first (Some (One w)) h free =
     let there : list_any (nat_eq x.value) (elements_of lists s.next) ≡ true = ap (list_any (nat_eq x.value)) el ∙ two-any x.value w in
     let ys : remove_key (nat_eq x.value) (elements_of lists s.next) ≡ w ∷ [] = ap (remove_key (nat_eq x.value)) el ∙ two-left x.value w (or_false (nat_eq x.value w) free) in
     let e : with_rows ents x.entity (write x.pred (Some (record { pred = x.pred; value = One w })) (rows_of ents x.entity)) ≡ s.entities =
-      ap (λ (l : List (List (Option Pair))). with_rows ents x.entity (write x.pred (Some (record { pred = x.pred; value = One w })) l)) r
-      ∙ ap (λ (l : List (List (Option Pair))). with_rows ents x.entity l) (write-back x.pred (Many s.next) (One w) rows h)
-      ∙ with_back k s.entities x.entity new sound.rows some in
+    ap (λ (l : List (List (Option Pair))). with_rows ents x.entity (write x.pred (Some (record { pred = x.pred; value = One w })) l)) r
+    ∙ ap (λ (l : List (List (Option Pair))). with_rows ents x.entity l) (write-back x.pred (Many s.next) (One w) rows h)
+    ∙ with_back k s.entities x.entity new sound.rows some in
     taken-found x (state ents lists (s.next + 1)) (Some (Many s.next)) f there
     ∙ ap (λ (l : List ℕ). left_over l s.next x (state ents lists (s.next + 1))) ys
     ∙ ap (λ (en : List (ℕ × List (List (Option Pair)))). state en (remove_entry (is_at (nat_cmp s.next)) lists) (s.next + 1)) e
@@ -112,4 +113,4 @@ pub taken_back : (k : ℕ) (columns : List ℕ) (x : Item) (s : SideState) → I
     → taken x (placed k columns x s) ≡ record { entities = s.entities; lists = s.lists; next = (placed k columns x s).next }
 taken_back k columns x s sound first free =
     subst (λ (b : Bool). taken x (if b then s else place_by (find x.pred (rows_of s.entities x.entity)) k columns x s) ≡ state s.entities s.lists (if b then s else place_by (find x.pred (rows_of s.entities x.entity)) k columns x s).next)
-      (sym free) (back_by k columns x s sound first (find x.pred (rows_of s.entities x.entity)) refl free)
+    (sym free) (back_by k columns x s sound first (find x.pred (rows_of s.entities x.entity)) refl free)

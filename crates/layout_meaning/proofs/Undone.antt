@@ -1,11 +1,10 @@
 -- Placing an item and taking it back gives the side as it was, but for the next number.
-use Rattle.std.proofs.Common.{◌≡◌, ℕ, zero, suc, ◌+◌, ◌≤◌, ◌<◌, ◌==◌, nat_eq, ◌||◌, Bool, true, false, cond, if◌then◌else◌, is_some, List, [], ◌∷◌, ◌++◌, Option, Some, None, length, replicate, arith, refl, sym, ap, subst, ◌∙◌}
-use Rattle.std.specs.List.{list_any, AllByRecursion}
+use Rattle.std.proofs.Common.{◌≡◌, ℕ, ◌<◌, ◌==◌, Bool, true, false, if◌then◌else◌, is_some, List, [], ◌∷◌, Option, Some, None, length, replicate, arith, refl, ap, ◌∙◌}
+use Rattle.std.specs.List.{AllByRecursion}
 use Rattle.std.specs.Ordering.{nat_cmp}
 use Rattle.std.specs.BTreeMap.{is_at, insert_entry}
-use Rattle.std.specs.Map.{lookup, set_value, remove_entry}
-use Rattle.std.specs.Set.{remove_key}
-use Rattle.layout_meaning.specs.Side.{Value, One, Many, Pair, Item, SideState, or_empty, rows_of, elements_of, found_values, find_in_row, find, or_else, all_free, keep, write_in_row, write, put_at, first_free, first_of, put_or, place_new, put_by, with_rows}
+use Rattle.std.specs.Map.{lookup, set_value}
+use Rattle.layout_meaning.specs.Side.{Value, Pair, or_empty, rows_of, find_in_row, find, or_else, all_free, keep, write_in_row, write, first_free, first_of, put_or, place_new, put_by, with_rows}
 use Rattle.layout_meaning.specs.Sound.{AreSoundRows}
 use Rattle.layout_meaning.proofs.RowSums.{first_free-is, free_row}
 use Rattle.layout_meaning.proofs.Maps.{set_value-same, insert_entry-same}
@@ -28,11 +27,12 @@ with_back k ents e new sound some = by (lookup (is_at (nat_cmp e)) ents) refl ne
         → put_by (Some (r ∷ rs)) (set_value (is_at (nat_cmp e)) ents (r ∷ rs)) e old ≡ ents
     old_by [] r rs t some = absurd (omega arith)
     old_by (a ∷ as1) r rs t some = set-set e (a ∷ as1) (r ∷ rs) ents t
+
     by : (o : Option (List (List (Option Pair)))) → lookup (is_at (nat_cmp e)) ents ≡ o → (new : List (List (Option Pair))) → 0 < length new → with_rows (put_by o ents e new) e (or_empty o) ≡ ents
     by None t new some = ap (λ (o : Option (List (List (Option Pair)))). put_by o (insert_entry nat_cmp ents e new) e []) (insert_entry-same e new ents t) ∙ remove-insert e new ents t
     by (Some old) t [] some = absurd (omega arith)
     by (Some old) t (r ∷ rs) some = ap (λ (o : Option (List (List (Option Pair)))). put_by o (set_value (is_at (nat_cmp e)) ents (r ∷ rs)) e old) (set_value-same e old (r ∷ rs) ents t)
-      ∙ old_by old r rs t (All-found (AreSoundRows k) e old ents sound t).some
+        ∙ old_by old r rs t (All-found (AreSoundRows k) e old ents sound t).some
 
 -- rows
 pub find_in-write : (p : ℕ) (v w : Value) (r : List (Option Pair)) → find_in_row p r ≡ Some w → find_in_row p (write_in_row p (Some (record { pred = p; value = v })) r) ≡ Some v

@@ -1,3 +1,4 @@
 pub mod Columns
+pub mod Facts
 pub mod Side
 pub mod Sound

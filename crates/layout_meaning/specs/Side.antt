@@ -1,11 +1,10 @@
 -- One side of the tables: its rows, its lists, and what a change does to them.
-use Rattle.std.specs.Prelude.{◌≡◌, ℕ, zero, suc, ◌+◌, ◌==◌, nat_eq, Bool, true, false, if◌then◌else◌, is_some, List, [], ◌∷◌, ◌++◌, map, replicate, Option, Some, None}
+use Rattle.std.specs.Prelude.{ℕ, zero, suc, ◌+◌, ◌==◌, nat_eq, Bool, true, false, if◌then◌else◌, is_some, List, [], ◌∷◌, ◌++◌, map, replicate, Option, Some, None}
 use Rattle.std.specs.List.{list_any, flat_map}
 use Rattle.std.specs.Ordering.{nat_cmp}
 use Rattle.std.specs.BTreeMap.{is_at, insert_entry}
 use Rattle.std.specs.Map.{lookup, set_value, remove_entry}
 use Rattle.std.specs.Set.{remove_key}
-
 pub use Rattle.layout_meaning.specs.declared.value.Value.{Value}
 pub use Rattle.layout_meaning.specs.declared.value.Value.TheVariants.{One, Many}
 
@@ -155,17 +154,17 @@ abbrev pub place_by : Option Value → ℕ → List ℕ → Item → SideState �
 place_by None k columns x s = record {
   entities = with_rows s.entities x.entity (place_new k columns (record { pred = x.pred; value = One x.value }) (rows_of s.entities x.entity));
   lists = s.lists;
-  next = s.next
+  next = s.next;
 }
 place_by (Some (One w)) k columns x s = record {
   entities = written x (Some (record { pred = x.pred; value = Many s.next })) s;
   lists = insert_entry nat_cmp s.lists s.next (w ∷ x.value ∷ []);
-  next = s.next + 1
+  next = s.next + 1;
 }
 place_by (Some (Many n)) k columns x s = record {
   entities = s.entities;
   lists = set_value (is_at (nat_cmp n)) s.lists (elements_of s.lists n ++ x.value ∷ []);
-  next = s.next
+  next = s.next;
 }
 
 -- a side after an item was placed: k is its width, and columns are the candidates of the item's predicate
@@ -178,7 +177,7 @@ left_over [] n x s = record { entities = s.entities; lists = set_value (is_at (n
 left_over (a ∷ []) n x s = record {
   entities = written x (Some (record { pred = x.pred; value = One a })) s;
   lists = remove_entry (is_at (nat_cmp n)) s.lists;
-  next = s.next
+  next = s.next;
 }
 left_over (a ∷ b ∷ more) n x s = record { entities = s.entities; lists = set_value (is_at (nat_cmp n)) s.lists (a ∷ b ∷ more); next = s.next }
 

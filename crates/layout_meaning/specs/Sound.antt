@@ -1,8 +1,8 @@
 -- What holds of each side.
-use Rattle.std.specs.Prelude.{◌≡◌, ℕ, zero, suc, nat_eq, ◌+◌, ◌≤◌, ◌<◌, ◌==◌, Bool, true, false, if◌then◌else◌, List, [], ◌∷◌, Option, Some, None, length}
+use Rattle.std.specs.Prelude.{◌≡◌, ℕ, zero, suc, nat_eq, ◌≤◌, ◌<◌, ◌==◌, Bool, true, false, if◌then◌else◌, List, [], ◌∷◌, Option, Some, None, length}
 use Rattle.std.specs.List.{AllByRecursion, list_any}
 use Rattle.bags.specs.Bag.{total}
-use Rattle.layout_meaning.specs.Side.{Value, One, Many, Pair, Item, Row, Rows, Entities, ValueLists, SideState, all_free}
+use Rattle.layout_meaning.specs.Side.{Value, One, Many, Pair, Row, Rows, Entities, ValueLists, SideState, all_free}
 
 abbrev pub one_if : Bool → ℕ
 one_if b = if b then 1 else 0

@@ -10,3 +10,4 @@ pub mod Back
 pub mod Undone
 pub mod TakenBack
 pub mod InColumns
+pub mod ListsKept

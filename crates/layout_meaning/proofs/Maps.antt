@@ -111,3 +111,12 @@ insert_entry-same {X} n w (e ∷ es) p = by (insert_entry-same n w es) (nat_cmp 
     by ih Less t q = rw (at_itself n) refl
     by ih Equal t q = cc
     by ih Greater t q = rw t (ih q)
+
+pub remove-set : {X : Type 0} (n : ℕ) (w : X) (es : List (ℕ × X)) → remove_entry (is_at (nat_cmp n)) (set_value (is_at (nat_cmp n)) es w) ≡ remove_entry (is_at (nat_cmp n)) es
+remove-set n w [] = refl
+remove-set {X} n w (e ∷ es) = by (remove-set n w es) (is_at (nat_cmp n) e.0) refl
+  where
+    by : remove_entry (is_at (nat_cmp n)) (set_value (is_at (nat_cmp n)) es w) ≡ remove_entry (is_at (nat_cmp n)) es → (b : Bool) → is_at (nat_cmp n) e.0 ≡ b
+        → remove_entry (is_at (nat_cmp n)) (cond b ((e.0, w) ∷ es) (e ∷ set_value (is_at (nat_cmp n)) es w)) ≡ cond b es (e ∷ remove_entry (is_at (nat_cmp n)) es)
+    by ih true t = rw t refl
+    by ih false t = rw t (ap (λ (l : List (ℕ × X)). e ∷ l) ih)

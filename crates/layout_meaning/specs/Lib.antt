@@ -1,4 +1,5 @@
 pub mod Columns
 pub mod Facts
+pub mod Lists
 pub mod Side
 pub mod Sound

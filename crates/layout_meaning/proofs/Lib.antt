@@ -11,3 +11,4 @@ pub mod Undone
 pub mod TakenBack
 pub mod InColumns
 pub mod ListsKept
+pub mod Names

@@ -1,6 +1,6 @@
 //! Columns: their count, the count of hashes, and the known columns of some IRIs.
 
-ghost use Rattle.std.specs.Prelude.{◌≡◌, ◌≢◌, ◌≤◌, ◌<◌, ◌∷◌, ◌++◌, [], length, map, All, IfOk, IfErr, OnOk, OnErr, None, Some, nat_eq};
+ghost use Rattle.std.specs.Prelude.{◌≡◌, ◌≢◌, ℕ, List, ◌≤◌, ◌<◌, ◌∷◌, ◌++◌, [], length, map, All, IfOk, IfErr, OnOk, OnErr, None, Some, nat_eq};
 ghost use Rattle.std.specs.List.{IsDistinct};
 ghost use Rattle.indexmap.specs.IndexMap.{get};
 ghost use Rattle.layout_meaning.specs.Columns.{candidates_of};
@@ -104,6 +104,7 @@ impl Columns {
         ensures value { result ≡ self.now.count }
         ensures low { 1 ≤ result }
         ensures high { result ≤ 32 }
+        ensures some { (iri : List ℕ) → 0 < length (candidates_of self.now iri) }
     {
         self.count
     }

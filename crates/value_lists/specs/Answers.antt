@@ -12,10 +12,14 @@ use Rattle.value_lists.specs.declared.lists.Put.TheVariants.{Added, There}
 use Rattle.value_lists.specs.declared.lists.TakeOut.{TakeOut}
 use Rattle.value_lists.specs.declared.lists.TakeOut.TheVariants.{Absent, Left, One}
 
+-- the list with this number is there
+abbrev pub HasNumber : ListsOf → ℕ → Type 0
+HasNumber l n = IsSome (lookup (is_at (nat_cmp n)) l.lists)
+
 -- the list with this id is there
 pub record HasList (l : ListsOf) (id : ℤ) : Type 0 where
   pub negative : id ≤ℤ negsuc 0
-  pub there : IsSome (lookup (is_at (nat_cmp (number_of id))) l.lists)
+  pub there : HasNumber l (number_of id)
 
 -- from whether the value was there
 abbrev pub put_of : Bool → Put

@@ -8,7 +8,7 @@ ghost use Rattle.std.specs.Map.{lookup, set_value};
 ghost use Rattle.std.specs.Set.{remove_key};
 ghost use Rattle.layout_meaning.specs.Side.{elements_of, only, left_lists};
 ghost use Rattle.layout_meaning.specs.Lists.{list_id, number_of, with_list, with_value, without_value};
-ghost use Rattle.value_lists.specs.Answers.{put_of, take_out_of, HasList};
+ghost use Rattle.value_lists.specs.Answers.{put_of, take_out_of, HasList, HasNumber};
 
 use crate::values::Values;
 use std::alloc::{AllocError, Global};
@@ -113,14 +113,6 @@ impl Lists {
         self.lists.get(&number_of(list)).unwrap().as_slice()
     }
 
-    /// Whether a value is in a list.
-    pub fn has(&self, list: i64, value: u32) -> bool
-        requires { HasList self.now list }
-        ensures { result ≡ list_any (nat_eq value) (elements_of self.now.lists (number_of list)) }
-    {
-        self.lists.get(&number_of(list)).unwrap().contains(value)
-    }
-
     /// Puts a value last into a list, unless it is there.
     pub fn add(&mut self, alloc: Global, list: i64, value: u32) -> Result<Put, AllocError>
         requires { HasList self.old list }
@@ -128,11 +120,7 @@ impl Lists {
         ensures ok { OnOk result (self.new ≡ with_value self.old (number_of list) value) }
         ensures err { OnErr result (self.new ≡ self.old) }
     {
-        if self.has(list, value) {
-            return Ok(Put::There);
-        }
-        append(&mut self.lists, alloc, number_of(list), value)?;
-        Ok(Put::Added)
+        self.add_to(alloc, number_of(list), value)
     }
 
     /// Takes a value out of a list. The others keep their order; a list of one is gone. It takes no memory.
@@ -141,10 +129,59 @@ impl Lists {
         ensures answer { result ≡ take_out_of (elements_of self.old.lists (number_of list)) value }
         ensures lists { self.new ≡ without_value self.old (number_of list) value }
     {
-        if !self.has(list, value) {
+        self.take_from(number_of(list), value)
+    }
+
+    /// The number of the next list: its id is -1 less this number.
+    pub fn next_number(&self) -> u64
+        ensures value { result ≡ self.now.next }
+        ensures ids { result ≤ 2 ^ 62 }
+    {
+        self.next
+    }
+
+    /// Whether a value is in the list with this number.
+    pub fn has_in(&self, number: u64, value: u32) -> bool
+        ensures { result ≡ list_any (nat_eq value) (elements_of self.now.lists number) }
+    {
+        match self.lists.get(&number) {
+            Some(values) => values.contains(value),
+            None => false,
+        }
+    }
+
+    /// The values of the list with this number, in order.
+    pub fn elements_in(&self, number: u64) -> &[u32]
+        requires { HasNumber self.now number }
+        ensures { result.now ≡ elements_of self.now.lists number }
+    {
+        self.lists.get(&number).unwrap().as_slice()
+    }
+
+    /// As `add`, by the number of the list.
+    pub fn add_to(&mut self, alloc: Global, number: u64, value: u32) -> Result<Put, AllocError>
+        requires { HasNumber self.old number }
+        ensures put { IfOk result (λ put. put ≡ put_of (list_any (nat_eq value) (elements_of self.old.lists number))) }
+        ensures ok { OnOk result (self.new ≡ with_value self.old number value) }
+        ensures err { OnErr result (self.new ≡ self.old) }
+    {
+        if self.has_in(number, value) {
+            return Ok(Put::There);
+        }
+        append(&mut self.lists, alloc, number, value)?;
+        Ok(Put::Added)
+    }
+
+    /// As `take_out`, by the number of the list.
+    pub fn take_from(&mut self, number: u64, value: u32) -> TakeOut
+        requires { HasNumber self.old number }
+        ensures answer { result ≡ take_out_of (elements_of self.old.lists number) value }
+        ensures lists { self.new ≡ without_value self.old number value }
+    {
+        if !self.has_in(number, value) {
             return TakeOut::Absent;
         }
-        match take_from(&mut self.lists, number_of(list), value) {
+        match take_from(&mut self.lists, number, value) {
             Some(one) => TakeOut::One(one),
             None => TakeOut::Left,
         }

@@ -12,6 +12,8 @@ use Rattle.fragment_meaning.specs.declared.token.Mark.TheVariants as m
 use Rattle.fragment_meaning.specs.declared.token.Quoting.{Quoting}
 use Rattle.fragment_meaning.specs.declared.token.Quoting.TheVariants as q
 use Rattle.fragment_meaning.specs.declared.token.Found.{Found}
+use Rattle.fragment_meaning.specs.declared.token.Escape.{Escape}
+use Rattle.fragment_meaning.specs.declared.token.Body.{Body}
 use Rattle.fragment_meaning.specs.Classes.{is_start, is_variable_part, is_part, is_word_part, is_iri_part, is_text_part, is_hex, is_kept}
 use Rattle.fragment_meaning.specs.Words.{word_of}
 
@@ -37,11 +39,6 @@ hex_number (suc n) number (c ∷ cs) = if is_hex c && nat_le number 0x10FFFF the
 -- a number that is a character's
 abbrev pub is_scalar : ℕ → Bool
 is_scalar c = nat_le c 0xD7FF || (nat_le 0xE000 c && nat_le c 0x10FFFF)
-
--- what an escape stands for, and its length behind the backslash
-pub record Escape : Type 0 where
-  pub value : ℕ
-  pub chars : ℕ
 
 abbrev pub scalar_escape : ℕ → Option ℕ → Option Escape
 scalar_escape n None = None
@@ -89,11 +86,6 @@ abbrev pub may_stand_for : Quoting → Escape → Bool
 may_stand_for q.Iri e = is_iri_part e.value
 may_stand_for (q.Text quote) e = e.chars == 1 || is_text_part quote e.value
 may_stand_for (q.Long quote) e = true
-
--- the text up to its closing marks, decoded, and how many characters it has with them
-pub record Body : Type 0 where
-  pub text : List ℕ
-  pub chars : ℕ
 
 -- a piece of a text, and then the rest of it
 abbrev pub behind : List ℕ → ℕ → Option Body → Option Body
@@ -194,18 +186,13 @@ abbrev pub part_len : Bool → List ℕ → ℕ
 part_len local [] = 0
 part_len local (c ∷ cs) = if is_part c || (local && c == 58) then 1 else (if local then escaped_len (c ∷ cs) else 0)
 
--- a part of this length, and then the rest of the name
-abbrev pub after_part : ℕ → ℕ → ℕ
-after_part zero rest = 0
-after_part (suc n) rest = 1 + rest
-
 -- a full stop counts where something of the name follows it
 abbrev pub name_from : Bool → ℕ → List ℕ → ℕ
 name_from local n [] = 0
 name_from local (suc n) (c ∷ cs) = 1 + name_from local n cs
 name_from local zero (c ∷ cs) =
     if c == 46 then (if name_from local zero cs == 0 then 0 else 1 + name_from local zero cs)
-    else after_part (part_len local (c ∷ cs)) (name_from local (part_len local (c ∷ cs) - 1) cs)
+    else (if part_len local (c ∷ cs) == 0 then 0 else 1 + name_from local (part_len local (c ∷ cs) - 1) cs)
 
 -- how many characters a name goes on with
 unfoldable pub name_len : Bool → List ℕ → ℕ

@@ -81,3 +81,17 @@ pub enum Quoting {
     /// Three of these quotes on each side.
     Long(char),
 }
+
+/// What an escape stands for, and how many characters it has.
+#[derive(Clone, Copy, Debug)]
+pub struct Escape {
+    pub value: char,
+    pub chars: usize,
+}
+
+/// A text up to its closing marks, decoded, and how many characters it has with them.
+#[derive(Debug, Drop)]
+pub struct Body {
+    pub text: Text,
+    pub chars: usize,
+}

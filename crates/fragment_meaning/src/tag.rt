@@ -33,7 +33,11 @@ impl LanguageTag {
         ensures tag { IfSome result (λ t. t ≡ text) }
         ensures valid { is_some result ≡ is_tag text }
     {
-        if is_tag(text.bytes()) { Some(LanguageTag { text }) } else { None }
+        if is_tag(text.bytes()) {
+            Some(LanguageTag { text })
+        } else {
+            None
+        }
     }
 
     pub fn text(&self) -> &Text

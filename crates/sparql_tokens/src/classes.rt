@@ -97,7 +97,16 @@ pub(crate) fn is_tag_part(c: char) -> bool
 pub(crate) fn is_iri_part(c: char) -> bool
     ensures { result ≡ classes.is_iri_part c }
 {
-    !(c <= ' ' || c == '<' || c == '>' || c == '"' || c == '{' || c == '}' || c == '|' || c == '^' || c == '`' || c == '\\')
+    !(c <= ' '
+        || c == '<'
+        || c == '>'
+        || c == '"'
+        || c == '{'
+        || c == '}'
+        || c == '|'
+        || c == '^'
+        || c == '`'
+        || c == '\\')
 }
 
 /// What stands in a text between such quotes by itself.
@@ -118,5 +127,13 @@ pub(crate) fn is_hex(c: char) -> bool
 pub(crate) fn is_kept(c: char) -> bool
     ensures { result ≡ classes.is_kept c }
 {
-    is_between(36, 47, c) || c == '!' || c == '#' || c == ';' || c == '=' || c == '?' || c == '@' || c == '_' || c == '~'
+    is_between(36, 47, c)
+        || c == '!'
+        || c == '#'
+        || c == ';'
+        || c == '='
+        || c == '?'
+        || c == '@'
+        || c == '_'
+        || c == '~'
 }

@@ -86,7 +86,11 @@ fn cut_chars(alloc: Global, text: &[char]) -> Result<Items<Token>, TokenRefusal>
         };
         let (token, after) = rest.split_at(found.chars);
         let to = at + byte_len(token);
-        tokens.push(Token { kind: found.kind, from: at, to })?;
+        tokens.push(Token {
+            kind: found.kind,
+            from: at,
+            to,
+        })?;
         let next = after_blanks(after, to);
         rest = next.0;
         at = next.1;

@@ -77,7 +77,10 @@ pub(crate) fn escape_at(short: bool, chars: &[char]) -> Option<Escape>
     } else if *first == 'U' {
         scalar_escape(9, hex_number(8, 0, rest))
     } else if short && short_escape(*first) != '\0' {
-        Some(Escape { value: short_escape(*first), chars: 1 })
+        Some(Escape {
+            value: short_escape(*first),
+            chars: 1,
+        })
     } else {
         None
     }

@@ -61,8 +61,14 @@ pub(crate) fn mark_at(chars: &[char]) -> Option<Found>
         _ => '\0',
     };
     if let Some(mark) = mark_of_two(first, second) {
-        return Some(Found { kind: TokenKind::Mark(mark), chars: 2 });
+        return Some(Found {
+            kind: TokenKind::Mark(mark),
+            chars: 2,
+        });
     }
     let mark = mark_of_one(first)?;
-    Some(Found { kind: TokenKind::Mark(mark), chars: 1 })
+    Some(Found {
+        kind: TokenKind::Mark(mark),
+        chars: 1,
+    })
 }

@@ -54,7 +54,11 @@ fn tag_tail_len(chars: &[char]) -> usize
     ensures value { result ≡ tag_tail_len chars.now }
     ensures within { result ≤ length chars.now }
 {
-    if head(chars) == '-' { later_tag_len(chars) } else { 0 }
+    if head(chars) == '-' {
+        later_tag_len(chars)
+    } else {
+        0
+    }
 }
 
 #[tactic(auto, unfolding(fragment_meaning::specs::Tokens::tag_len))]
@@ -82,7 +86,10 @@ pub(crate) fn tag_at(alloc: Global, chars: &[char]) -> Result<Option<Found>, All
     let n = tag_len(chars);
     let text = lower(alloc, &chars[..n])?;
     match LanguageTag::new(text) {
-        Some(tag) => Ok(Some(Found { kind: TokenKind::Tag(tag), chars: 1 + n })),
+        Some(tag) => Ok(Some(Found {
+            kind: TokenKind::Tag(tag),
+            chars: 1 + n,
+        })),
         None => Ok(None),
     }
 }
@@ -138,7 +145,11 @@ fn label_len(chars: &[char]) -> usize
     let Some((first, rest)) = chars.split_first() else {
         return 0
     };
-    if is_start(*first) || is_digit(*first) { 1 + name_len(false, rest) } else { 0 }
+    if is_start(*first) || is_digit(*first) {
+        1 + name_len(false, rest)
+    } else {
+        0
+    }
 }
 
 /// The blank node behind its `_`.
@@ -182,7 +193,11 @@ fn is_no_backslash(c: char) -> bool
 fn unescaped(alloc: Global, chars: &[char]) -> Result<Text, AllocError>
     ensures { IfOk result (λ t. t ≡ encode_utf8_all (filter is_no_backslash chars.now)) }
 {
-    let text: String = chars.iter().copied().filter(|c| is_no_backslash(*c)).collect(alloc)?;
+    let text: String = chars
+        .iter()
+        .copied()
+        .filter(|c| is_no_backslash(*c))
+        .collect(alloc)?;
     text_of(alloc, text.as_str())
 }
 
@@ -198,7 +213,10 @@ pub(crate) fn named_at(
 {
     let n = local_len(chars);
     let kind = TokenKind::Named(text_from(alloc, prefix)?, unescaped(alloc, &chars[..n])?);
-    Ok(Some(Found { kind, chars: prefix.len() + 1 + n }))
+    Ok(Some(Found {
+        kind,
+        chars: prefix.len() + 1 + n,
+    }))
 }
 
 // What a prefix goes on with: a full stop isn't its last character.
@@ -237,7 +255,10 @@ fn word_at(chars: &[char]) -> Option<Found>
     ensures within { IsWithin (length chars.now) result }
 {
     let n = word_len(chars);
-    Some(Found { kind: TokenKind::Word(word_of(&chars[..n])), chars: n })
+    Some(Found {
+        kind: TokenKind::Word(word_of(&chars[..n])),
+        chars: n,
+    })
 }
 
 /// A name where a colon ends its prefix, else a word.

@@ -20,7 +20,11 @@ fn exponent_len(chars: &[char]) -> usize
     };
     let sign = sign_len(rest);
     let digits = digits_len(&rest[sign..]);
-    if (*first == 'e' || *first == 'E') && digits != 0 { 1 + sign + digits } else { 0 }
+    if (*first == 'e' || *first == 'E') && digits != 0 {
+        1 + sign + digits
+    } else {
+        0
+    }
 }
 
 // The number behind whose sign and whole digits, which end at `at`, a full stop stands.

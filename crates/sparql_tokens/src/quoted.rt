@@ -46,7 +46,11 @@ fn escape_in(quoting: Quoting, chars: &[char]) -> Option<Escape>
     ensures within { IfSome result (λ e. e.chars ≤ length chars.now) }
 {
     let escape = escape_at(has_short_escapes(quoting), chars)?;
-    if may_stand_for(quoting, escape) { Some(escape) } else { None }
+    if may_stand_for(quoting, escape) {
+        Some(escape)
+    } else {
+        None
+    }
 }
 
 fn is_quote(chars: &[char], quote: char) -> bool
@@ -109,9 +113,15 @@ fn piece_at(quoting: Quoting, first: char, rest: &[char]) -> Option<Escape>
 {
     if first == '\\' {
         let escape = escape_in(quoting, rest)?;
-        Some(Escape { value: escape.value, chars: 1 + escape.chars })
+        Some(Escape {
+            value: escape.value,
+            chars: 1 + escape.chars,
+        })
     } else if stands(quoting, first) {
-        Some(Escape { value: first, chars: 1 })
+        Some(Escape {
+            value: first,
+            chars: 1,
+        })
     } else {
         None
     }
@@ -149,25 +159,41 @@ pub(crate) fn iri_at(alloc: Global, chars: &[char]) -> Result<Option<Found>, All
     ensures within { IfOk result (IsWithin (1 + length chars.now)) }
 {
     match body_at(alloc, Quoting::Iri, chars)? {
-        Some(body) => Ok(Some(Found { kind: TokenKind::Iri(body.text), chars: 1 + body.chars })),
+        Some(body) => Ok(Some(Found {
+            kind: TokenKind::Iri(body.text),
+            chars: 1 + body.chars,
+        })),
         None => Ok(None),
     }
 }
 
 /// The text behind its first quote.
 #[tactic(auto, unfolding(fragment_meaning::specs::Tokens::quoted_at))]
-pub(crate) fn quoted_at(alloc: Global, quote: char, chars: &[char]) -> Result<Option<Found>, AllocError>
+pub(crate) fn quoted_at(
+    alloc: Global,
+    quote: char,
+    chars: &[char],
+) -> Result<Option<Found>, AllocError>
     ensures value { IfOk result (λ f. f ≡ quoted_at quote chars.now) }
     ensures within { IfOk result (IsWithin (1 + length chars.now)) }
 {
     if is_two_quotes(chars, quote) {
         match body_at(alloc, Quoting::Long(quote), &chars[2..])? {
-            Some(body) => Ok(Some(Found { kind: TokenKind::LongText(body.text), chars: 3 + body.chars })),
-            None => Ok(Some(Found { kind: TokenKind::Text(text_of(alloc, "")?), chars: 2 })),
+            Some(body) => Ok(Some(Found {
+                kind: TokenKind::LongText(body.text),
+                chars: 3 + body.chars,
+            })),
+            None => Ok(Some(Found {
+                kind: TokenKind::Text(text_of(alloc, "")?),
+                chars: 2,
+            })),
         }
     } else {
         match body_at(alloc, Quoting::Text(quote), chars)? {
-            Some(body) => Ok(Some(Found { kind: TokenKind::Text(body.text), chars: 1 + body.chars })),
+            Some(body) => Ok(Some(Found {
+                kind: TokenKind::Text(body.text),
+                chars: 1 + body.chars,
+            })),
             None => Ok(None),
         }
     }

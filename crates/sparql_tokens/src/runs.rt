@@ -84,5 +84,9 @@ pub(crate) fn variable_len(chars: &[char]) -> usize
     let Some((first, rest)) = chars.split_first() else {
         return 0
     };
-    if is_start(*first) || is_digit(*first) { 1 + variable_rest_len(rest) } else { 0 }
+    if is_start(*first) || is_digit(*first) {
+        1 + variable_rest_len(rest)
+    } else {
+        0
+    }
 }

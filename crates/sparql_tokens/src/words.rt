@@ -472,5 +472,9 @@ fn is_lower_a(chars: &[char]) -> bool
 pub(crate) fn word_of(chars: &[char]) -> Word
     ensures { result ≡ word_of chars.now }
 {
-    if is_lower_a(chars) { Word::A } else { word_in(words(), chars) }
+    if is_lower_a(chars) {
+        Word::A
+    } else {
+        word_in(words(), chars)
+    }
 }

@@ -1,0 +1,14 @@
+pub mod Candidates
+pub mod Maps
+pub mod RowSums
+pub mod Sums
+pub mod Held
+pub mod RowsKept
+pub mod Kept
+pub mod Changes
+pub mod Back
+pub mod Undone
+pub mod TakenBack
+pub mod InColumns
+pub mod ListsKept
+pub mod Names

@@ -1,0 +1,4 @@
+pub mod Fills
+pub mod Equations
+pub mod Trees
+pub mod Ordered

@@ -1,0 +1,5 @@
+pub mod CellSteps
+pub mod RowSteps
+pub mod Counting
+pub mod CountSteps
+pub mod Sides

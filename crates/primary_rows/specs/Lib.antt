@@ -1,0 +1,5 @@
+pub mod Cells
+pub mod Places
+pub mod Counted
+pub mod Kept
+pub mod Answers

@@ -1,0 +1,14 @@
+//! One side of the hashed layout: the rows of its entities, and its lists.
+#![tactic(auto)]
+
+mod cells;
+mod counts;
+mod rows;
+mod side;
+mod table;
+
+pub use cells::Pair;
+pub use side::{Side, SideRefusal, Took};
+
+#[cfg(test)]
+mod tests;

@@ -1,0 +1,4 @@
+pub mod Ints
+pub mod Runs
+pub mod Quotes
+pub mod Pieces

@@ -1,0 +1,8 @@
+pub mod Schemas
+pub mod Tables
+pub mod Names
+pub mod Ints
+pub mod CellText
+pub mod TableText
+pub mod TableLaws
+pub mod IntLaws

@@ -1,0 +1,5 @@
+//! Tests of tables as text.
+#![tactic(auto)]
+
+#[cfg(test)]
+mod texts;

@@ -1,0 +1,14 @@
+pub mod Cuts
+pub mod Quotes
+pub mod LeftOver
+pub mod NameLaws
+pub mod StepLaws
+pub mod ReadLaws
+pub mod TextLaws
+pub mod CellLaws
+pub mod LastRow
+pub mod RowLaws
+pub mod HeadLaws
+pub mod Sound
+pub mod Complete
+pub mod Written

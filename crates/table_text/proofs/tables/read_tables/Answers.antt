@@ -1,0 +1,39 @@
+use Rattle.std.proofs.Common.{◌≡◌, ◌≤◌, ◌<◌, ◌+◌, length, sym, ◌∙◌, subst, ap, Some, None, true, false, ℕ, map, arith}
+use Rattle.std.specs.Str.{bytes_eq}
+use Rattle.table_meaning.specs.Tables.{NamedTable, table_name}
+use Rattle.table_meaning.specs.TableText.{sql_line, IsFirstBadLine, TablesRead}
+use Rattle.table_text.specs.Reading.{step}
+use Rattle.table_text.proofs.ReadLaws.{ends_early, read_whole, line_is_bad, read_on, set_of}
+use Rattle.table_text.proofs.tables.read_tables.Goals as goal
+
+pub returns-in_default-split_line-clause-bad : goal.returns-in_default-split_line-clause-bad
+returns-in_default-split_line-clause-bad c = λ n e.
+    let same : c.lines.line ≡ n = cc in
+    subst (IsFirstBadLine c.args.bytes.now) same
+    (ends_early c.args.bytes.now c.lines.rest.now c.lines.tables.items c.lines.line c.lines.invariant.0 c.in_default-split_line.ensures.cases)
+
+pub returns-then-eq-clause-read : goal.returns-then-eq-clause-read
+returns-then-eq-clause-read c =
+    let sql : bytes_eq c.in-Some-split_line.text.now sql_line ≡ true = rw c.as_slice.ensures at (sym c.eq.ensures ∙ c.if-eq.true) in
+    rw c.in_ok-as_set.ensures
+    (read_whole c.args.bytes.now c.lines.rest.now c.in-Some-split_line.text.now c.in-Some-split_line.after.now c.lines.tables.items c.lines.line c.lines.invariant.0 c.in-Some-split_line.ensures.cases.1 sql)
+
+pub returns-then-not-branch-clause-bad : goal.returns-then-not-branch-clause-bad
+returns-then-not-branch-clause-bad c = λ n e.
+    let same : c.lines.line ≡ n = cc in
+    let other : bytes_eq c.in-Some-split_line.text.now sql_line ≡ false = rw c.as_slice.ensures at (sym c.eq.ensures ∙ c.if-eq.false) in
+    let stops : step c.lines.tables.items c.in-Some-split_line.text.now ≡ None = rw c.if-not-branch.true at c.in_ok-add_line.ensures.step in
+    subst (IsFirstBadLine c.args.bytes.now) same
+    (line_is_bad c.args.bytes.now c.lines.rest.now c.in-Some-split_line.text.now c.in-Some-split_line.after.now c.lines.tables.items c.lines.line c.lines.invariant.0
+    c.in-Some-split_line.ensures.cases.0 c.in-Some-split_line.ensures.cases.1 other stops)
+
+pub lines-preserved : goal.lines-preserved
+lines-preserved c =
+    let goes : step c.lines.tables.items c.in-Some-split_line.text.now ≡ Some c.add_line.new.tables.items = rw c.if-not-branch.false at c.in_ok-add_line.ensures.step in
+    let names : c.add_line.new.names ≡ map table_name c.add_line.new.tables.items = rw c.if-not-branch.false at c.in_ok-add_line.ensures.names in
+    let shorter : length c.in-Some-split_line.after.now < length c.lines.rest.now = c.in-Some-split_line.ensures.shorter in (
+      read_on c.args.bytes.now c.lines.rest.now c.in-Some-split_line.text.now c.in-Some-split_line.after.now c.lines.tables.items c.add_line.new.tables.items c.lines.line c.lines.invariant.0
+          c.in-Some-split_line.ensures.cases.0 c.in-Some-split_line.ensures.cases.1 goes,
+      names,
+      omega (arith, c.lines.invariant.2),
+    )

@@ -25,6 +25,24 @@ fn queries_of_one_pattern_are_answered(rt: HostRuntime) -> Result<(), Fail> {
             "?s\t?p\t?o\n<u:a>\t<u:p>\t<u:d>\n<u:b>\t<u:p>\t<u:c>\n",
         ),
         (ab, "SELECT * { <u:a> <u:p> <u:b> }", "\n\n"),
+        // Added twice, then deleted.
+        (
+            "<u:a> <u:p> <u:b> .\nA <u:a> <u:p> <u:b> .\nD <u:a> <u:p> <u:b> .\n",
+            "SELECT * { ?s <u:p> ?o }",
+            "?s\t?o\n",
+        ),
+        // Equal values are ordered by their text.
+        (
+            "<u:a> <u:n> \"1\"^^<http://www.w3.org/2001/XMLSchema#integer> .\n<u:a> <u:n> \"01\"^^<http://www.w3.org/2001/XMLSchema#integer> .\n",
+            "SELECT * WHERE { <u:a> <u:n> ?o }",
+            "?o\n\"01\"^^<http://www.w3.org/2001/XMLSchema#integer>\n\"1\"^^<http://www.w3.org/2001/XMLSchema#integer>\n",
+        ),
+        // Escapes are read, and a tag is put into lower case.
+        (
+            "<u:\\u0041> <u:p> \"caf\\u00E9\"@EN-GB .\n",
+            "SELECT * WHERE { ?s <u:p> ?o }",
+            "?s\t?o\n<u:A>\t\"caf\u{e9}\"@en-gb\n",
+        ),
     ];
     for (data, query, want) in cases {
         let mut shelf = shelf(alloc, data, query)?;

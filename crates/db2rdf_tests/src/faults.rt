@@ -41,26 +41,114 @@ fn a_full_output_keeps_a_front(rt: HostRuntime) -> Result<(), Fail> {
 }
 
 #[test]
-fn refusals_leave_the_output_alone(rt: HostRuntime) -> Result<(), Fail> {
+fn refusals_name_their_cause(rt: HostRuntime) -> Result<(), Fail> {
     let alloc = rt.alloc();
     let cases = [
-        (DATA, QUERY, ["query", "d", "--q"], 1000, 2),
         (
             DATA,
             "SELECT ?s { ?s <u:p> ?o }",
-            ["query", "d", "q"],
-            1000,
             20,
+            "db2rdf: not built yet\n",
         ),
-        ("<u:a> <u:p> .\n", QUERY, ["query", "d", "q"], 1000, 20),
-        // A failed put on the error output changes no status.
-        (DATA, "SELECT", ["query", "d", "q"], 0, 20),
+        (
+            "<u:a> <u:p> <u:b> .\n<u:a> <u:p> \"x .\n",
+            QUERY,
+            3,
+            "db2rdf: bad data at line 2\n",
+        ),
+        (
+            "<u:\\uD800> <u:p> \"x\" .\n",
+            QUERY,
+            3,
+            "db2rdf: bad data at line 1\n",
+        ),
+        ("\r\n\rx\n", QUERY, 3, "db2rdf: bad data at line 2\n"),
     ];
-    for (data, query, texts, err_room, code) in cases {
+    for (data, query, code, line) in cases {
         let mut shelf = shelf(alloc, data, query)?;
-        let ran = run_on(alloc, &mut shelf, &texts, 1000, err_room)?;
-        assert_eq!(rt; ran.code, code, "{query}");
-        assert_eq!(rt; ran.out.bytes().len(), 0, "{query}");
+        let ran = run_on(alloc, &mut shelf, &["query", "d", "q"], 1000, 1000)?;
+        assert_eq!(rt; ran.code, code, "{data}");
+        assert_eq!(rt; ran.out.bytes().len(), 0, "{data}");
+        assert_eq!(rt; ran.err.bytes(), line.as_bytes(), "{data}");
     }
+    Ok(())
+}
+
+#[test]
+fn long_lines_and_queries_pass_limits(rt: HostRuntime) -> Result<(), Fail> {
+    let alloc = rt.alloc();
+    for (length, code, line) in [(65_535, 0, ""), (65_536, 5, "db2rdf: limit: line\n")] {
+        let mut data = String::from_str(alloc, "#")?;
+        for _ in 0..length {
+            data.push('x')?;
+        }
+        let mut shelf = shelf(alloc, data.as_str(), QUERY)?;
+        let ran = run_on(alloc, &mut shelf, &["query", "d", "q"], 1000, 1000)?;
+        assert_eq!(rt; ran.code, code, "{length}");
+        assert_eq!(rt; ran.err.bytes(), line.as_bytes(), "{length}");
+    }
+    let mut query = String::from_str(alloc, QUERY)?;
+    while query.len() < 65_537 {
+        query.push(' ')?;
+    }
+    let mut shelf = shelf(alloc, DATA, query.as_str())?;
+    let ran = run_on(alloc, &mut shelf, &["query", "d", "q"], 1000, 1000)?;
+    assert_eq!(rt; ran.code, 5);
+    assert_eq!(rt; ran.err.bytes(), b"db2rdf: limit: query\n".as_slice());
+    Ok(())
+}
+
+#[test]
+fn words_are_judged_before_files(rt: HostRuntime) -> Result<(), Fail> {
+    let alloc = rt.alloc();
+    let cases: [(&[&str], u8); 16] = [
+        (&[], 2),
+        (&["query"], 2),
+        (&["query", "d", "--q"], 2),
+        (&["query", "--columns", "33", "d", "q"], 2),
+        (&["query", "--columns", "08", "d", "q"], 2),
+        (&["query", "--pieces", "65", "d", "q"], 2),
+        (&["query", "--pieces", "1", "--pieces", "2", "d", "q"], 2),
+        (
+            &["query", "--layout", "hash", "--colouring", "c", "d", "q"],
+            2,
+        ),
+        (&["query", "--colouring", "--c", "d", "q"], 2),
+        (&["exec", "--columns", "2", "f"], 2),
+        (&["drill", "0", "1"], 2),
+        (&["drill", "100000", "4294967296"], 2),
+        (
+            &[
+                "query",
+                "--columns",
+                "32",
+                "--hashes",
+                "4",
+                "--pieces",
+                "64",
+                "d",
+                "q",
+            ],
+            0,
+        ),
+        (&["query", "--colouring", "c", "d", "q"], 20),
+        (&["drill", "100000", "4294967295"], 20),
+        (&["show", "--reverse", "1", "x", "y"], 20),
+    ];
+    for (texts, code) in cases {
+        let mut shelf = shelf(alloc, DATA, QUERY)?;
+        let ran = run_on(alloc, &mut shelf, texts, 1000, 1000)?;
+        assert_eq!(rt; ran.code, code, "{texts:?}");
+    }
+    Ok(())
+}
+
+#[test]
+fn a_failed_put_on_the_error_output_changes_nothing(rt: HostRuntime) -> Result<(), Fail> {
+    let alloc = rt.alloc();
+    let mut shelf = shelf(alloc, DATA, "SELECT")?;
+    let ran = run_on(alloc, &mut shelf, &["query", "d", "q"], 1000, 0)?;
+    assert_eq!(rt; ran.code, 20);
+    assert_eq!(rt; ran.out.bytes().len(), 0);
     Ok(())
 }

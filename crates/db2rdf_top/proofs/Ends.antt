@@ -10,12 +10,6 @@ use Rattle.run_meaning.specs.FittingText.{Fits, FitsFront}
 use Rattle.run_meaning.specs.Causes.{Faults, Says, Completes, CouldNotRead}
 use Rattle.db2rdf_top.specs.Stops.{Stops, Puts, NamesSomething}
 
--- a data file that is refused
-data_refused : (d q : Option (List ℕ)) (status : Status) → IfSome d (λ t. judged_data t ≡ Err status) → IfSome d (λ t. IfSome q (λ u. outcome t u ≡ Err status))
-data_refused None q status f = tt
-data_refused (Some t) None status f = tt
-data_refused (Some t) (Some u) status f = rw f refl
-
 -- a query file that is refused
 query_refused : (d q : Option (List ℕ)) (changes : List Change) (status : Status) → IfSome d (λ t. judged_data t ≡ Ok changes) → IfSome q (λ t. judged_query t ≡ Err status)
     → IfSome d (λ t. IfSome q (λ u. outcome t u ≡ Err status))
@@ -26,20 +20,6 @@ query_refused (Some t) (Some u) changes status f p = rw (f, p) refl
 accepted : (d : Option (List ℕ)) (changes : List Change) → IfSome d (λ t. judged_data t ≡ Ok changes) → IfSome d (λ t. IsOk (judged_data t))
 accepted None changes f = tt
 accepted (Some t) changes f = rw f refl
-
--- the data file stopped the run
-pub data_stops : (status : Status) (f : Files) (contents : Contents) (before after : List ℕ → ℕ) (out : Option (List ℕ)) (count : ℕ)
-    → Stops status f.data_name (λ s. IfSome (contents f.data_name) (λ d. judged_data d ≡ Err s)) (before f.data_name) (after f.data_name)
-    → Says status (Ok f) contents (record { before = before; after = after; out_before = count; out_after = count }) out out
-data_stops NoMemory f contents before after out count s = refl
-data_stops NotYet f contents before after out count s = (data_refused (contents f.data_name) (contents f.query_name) NotYet s, refl)
-data_stops (BadData line) f contents before after out count s = (data_refused (contents f.data_name) (contents f.query_name) (BadData line) s, refl)
-data_stops (Limit which) f contents before after out count s = (data_refused (contents f.data_name) (contents f.query_name) (Limit which) s, refl)
-data_stops (ReadFault name) f contents before after out count s =
-    let P : List ℕ → Type 0 = λ m. before m < after m in ((subst P (sym s.0) s.1, inl s.0), refl)
-data_stops Done f contents before after out count s = absurd s
-data_stops Usage f contents before after out count s = absurd s
-data_stops WriteFault f contents before after out count s = absurd s
 
 -- the query file stopped the run
 pub query_stops : (status : Status) (f : Files) (contents : Contents) (before middle after : List ℕ → ℕ) (out : Option (List ℕ)) (count : ℕ) (changes : List Change)

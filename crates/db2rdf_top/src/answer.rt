@@ -1,8 +1,9 @@
 //! The text of an answer.
 
-ghost use Rattle.std.specs.Prelude.{◌≡◌, ◌++◌, ◌∷◌, [], OnOk, IfOk, map, length, option_copied, ◌≤◌};
+ghost use Rattle.std.specs.Prelude.{◌≡◌, ◌++◌, ◌∷◌, [], OnOk, IfOk, IsTrue, map, length, option_copied, ◌≤◌};
 ghost use Rattle.std.specs.List.{flat_map};
 ghost use Rattle.query_meaning.specs.Leaf.{bound};
+ghost use Rattle.query_meaning.specs.Width.{pattern_in_width};
 ghost use Rattle.query_meaning.specs.AnswerText.{tabbed, row_text, header_text, answer_text, place_text};
 ghost use Rattle.run_meaning.specs.FittingText.{numbers_from};
 ghost use Rattle.db2rdf_top.specs.Rows.{row_at, plain_answer_text};
@@ -126,7 +127,8 @@ pub(crate) fn answer(
     mut triples: Vec<Triple>,
     query: &PatternQuery,
 ) -> Result<Vec<u8>, AllocError>
-    ensures { IfOk result (λ text. text.items ≡ plain_answer_text query.now triples.items) }
+    ensures text { IfOk result (λ text. text.items ≡ plain_answer_text query.now triples.items) }
+    ensures in_width { OnOk result (IsTrue (pattern_in_width query.now.pattern)) }
 {
     let shown = variables_below(alloc, query.names.len())?;
     keep_sorted_matches(&query.pattern, &shown, &mut triples)?;

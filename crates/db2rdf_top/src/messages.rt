@@ -105,7 +105,11 @@ pub(crate) fn tell<E: Sink>(alloc: Global, status: Status, err: &mut E) -> Statu
             put_line(limit_line(alloc, which), Status::Limit { which }, err)
         }
         Status::ReadFault { name } => {
-            put_line(read_fault_line(alloc, &name), Status::ReadFault { name }, err)
+            put_line(
+                read_fault_line(alloc, &name),
+                Status::ReadFault { name },
+                err,
+            )
         }
         Status::WriteFault => {
             let _ = err.put(b"db2rdf: cannot write\n");

@@ -19,11 +19,7 @@ use std::alloc::Global;
 use store_io::{Shelf, Sink};
 
 // The text of the answer, or the limit that the changes pass.
-fn answer_work(
-    alloc: Global,
-    changes: Vec<Change>,
-    query: &PatternQuery,
-) -> Result<Vec<u8>, Status>
+fn answer_work(alloc: Global, changes: Vec<Change>, query: &PatternQuery) -> Result<Vec<u8>, Status>
     ensures ok { IfOk result (λ text. text.items ≡ fitting_text record { changes = changes.items; query = query.now }) }
     ensures judged { OnOk result (judged_work record { changes = changes.items; query = query.now } ≡ Ok record { changes = changes.items; query = query.now }) }
     ensures refused { IfErr result (λ status. RefusedAs status (judged_work record { changes = changes.items; query = query.now })) }

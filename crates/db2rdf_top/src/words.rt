@@ -271,11 +271,7 @@ fn two_numbers(rest: &[String]) -> Option<(u32, u32)>
 }
 
 // The command of this name over a data file and a query file.
-fn over_two_files(
-    name: &str,
-    options: Options,
-    names: (Text, Text),
-) -> Option<Command>
+fn over_two_files(name: &str, options: Options, names: (Text, Text)) -> Option<Command>
     ensures { result ≡ over_two_files name.now options names.0 names.1 }
 {
     let (data, query) = names;
@@ -325,7 +321,11 @@ fn command_from(
             return Ok(None);
         };
         let options = given.into_options();
-        return Ok(Some(Command::Drill { options, count, seed }));
+        return Ok(Some(Command::Drill {
+            options,
+            count,
+            seed,
+        }));
     }
     let Some(files) = two_names(alloc, names)? else {
         return Ok(None);

@@ -1,12 +1,7 @@
 use Rattle.store_io.specs.Reading.{never_falls}
 use Rattle.run_meaning.specs.Outcome.{Files}
-use Rattle.db2rdf_top.proofs.Ends.{data_stops, query_stops, put_says}
+use Rattle.db2rdf_top.proofs.Ends.{query_stops, put_says}
 use Rattle.db2rdf_top.proofs.program.ask_files.Goals as goal
-
-pub returns-in-Err-read_data : goal.returns-in-Err-read_data
-returns-in-Err-read_data g c =
-    let named : Files = record { data_name = c.args.data_name.now; query_name = c.args.query_name.now } in
-    data_stops c.in-Err-read_data.status named (g.F.Shelf.content c.args.shelf.now) (g.F.Shelf.faults c.args.shelf.now) (g.F.Shelf.faults c.read_data.new.shelf) _ _ c.in-Err-read_data.ensures.err
 
 pub returns-in-Err-read_query : goal.returns-in-Err-read_query
 returns-in-Err-read_query g c =

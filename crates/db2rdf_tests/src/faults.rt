@@ -88,7 +88,7 @@ fn long_lines_and_queries_pass_limits(rt: HostRuntime) -> Result<(), Fail> {
         assert_eq!(rt; ran.err.bytes(), line.as_bytes(), "{length}");
     }
     let mut query = String::from_str(alloc, QUERY)?;
-    while query.len() < 65_537 {
+    for _ in QUERY.len()..65_537 {
         query.push(' ')?;
     }
     let mut shelf = shelf(alloc, DATA, query.as_str())?;

@@ -1,4 +1,5 @@
 use crate::runs::{run_on, shelf};
+use pattern_query::read_pattern_query;
 use std::test::Fail;
 
 #[test]
@@ -50,6 +51,21 @@ fn queries_of_one_pattern_are_answered(rt: HostRuntime) -> Result<(), Fail> {
         assert_eq!(rt; ran.code, 0, "{query}");
         assert_eq!(rt; ran.out.bytes(), want.as_bytes(), "{query}");
         assert_eq!(rt; ran.err.bytes().len(), 0, "{query}");
+    }
+    Ok(())
+}
+
+#[test]
+fn a_query_of_one_pattern_names_each_variable_once(rt: HostRuntime) -> Result<(), Fail> {
+    let alloc = rt.alloc();
+    for (text, count) in [
+        ("SELECT * { ?s <u:p> ?o }", Some(2)),
+        ("SELECT * { ?s <u:p> ?s }", Some(1)),
+        ("SELECT ?s { ?s <u:p> ?o }", None),
+    ] {
+        let read = read_pattern_query(alloc, text.as_bytes())?;
+        let names = read.map(|query| query.names.len());
+        assert_eq!(rt; names, count, "{text}");
     }
     Ok(())
 }

@@ -98,6 +98,17 @@ fn long_lines_and_queries_pass_limits(rt: HostRuntime) -> Result<(), Fail> {
     Ok(())
 }
 
+// What the words alone make the program say.
+fn line_of(code: u8) -> &'static str {
+    match code {
+        2 => {
+            "db2rdf: usage: db2rdf query|show|plan [options] DATA QUERY; stats [options] DATA; exec [--pieces N] FILE; drill [options] N SEED\n"
+        }
+        20 => "db2rdf: not built yet\n",
+        _ => "",
+    }
+}
+
 #[test]
 fn words_are_judged_before_files(rt: HostRuntime) -> Result<(), Fail> {
     let alloc = rt.alloc();
@@ -139,6 +150,7 @@ fn words_are_judged_before_files(rt: HostRuntime) -> Result<(), Fail> {
         let mut shelf = shelf(alloc, DATA, QUERY)?;
         let ran = run_on(alloc, &mut shelf, texts, 1000, 1000)?;
         assert_eq!(rt; ran.code, code, "{texts:?}");
+        assert_eq!(rt; ran.err.bytes(), line_of(code).as_bytes(), "{texts:?}");
     }
     Ok(())
 }

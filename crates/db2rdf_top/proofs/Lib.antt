@@ -1,5 +1,1 @@
-pub mod Tabs
-pub mod Notes
-pub mod Rows
 pub mod Ends
-pub mod Options

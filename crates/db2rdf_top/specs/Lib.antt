@@ -1,4 +1,1 @@
-pub mod Named
-pub mod Rows
 pub mod Stops
-pub mod Refusals

@@ -1,31 +1,33 @@
 //! One run of the program.
 
 ghost use Rattle.std.specs.Prelude.{◌≡◌, Ok, Err, IfOk, IfErr, OnOk, map, string_bytes};
+ghost use Rattle.run_meaning.specs.declared.command.Command.TheVariants as command;
+ghost use Rattle.run_meaning.specs.declared.command.Options.{Options};
 ghost use Rattle.run_meaning.specs.Words.{command_of};
-ghost use Rattle.run_meaning.specs.Outcome.{files_of, files_of_command, judged_work};
+ghost use Rattle.run_meaning.specs.Outcome.{answering, asked, built, judged_work};
 ghost use Rattle.run_meaning.specs.FittingText.{fitting_text};
 ghost use Rattle.run_meaning.specs.Causes.{Says, Completes, Told};
 ghost use Rattle.db2rdf_top.specs.Stops.{Puts, RefusedAs};
 
-use crate::answer::answer;
 use crate::files::{read_data, read_query};
 use crate::messages::tell;
-use crate::triples::{LoadRefusal, present};
-use crate::words::command_of;
+use command_words::command_of;
 use line_meaning::Change;
+use pattern_answer::answer;
 use pattern_query::PatternQuery;
+use plain_triples::{LoadRefusal, load};
 use run_meaning::{Command, Layout, Status};
 use std::alloc::Global;
 use store_io::{Shelf, Sink};
 
 // The text of the answer, or the limit that the changes pass.
 fn answer_work(alloc: Global, changes: Vec<Change>, query: &PatternQuery) -> Result<Vec<u8>, Status>
-    ensures ok { IfOk result (λ text. text.items ≡ fitting_text record { changes = changes.items; query = query.now }) }
-    ensures judged { OnOk result (judged_work record { changes = changes.items; query = query.now } ≡ Ok record { changes = changes.items; query = query.now }) }
-    ensures refused { IfErr result (λ status. RefusedAs status (judged_work record { changes = changes.items; query = query.now })) }
+    ensures ok { IfOk result (λ text. text.items ≡ fitting_text (answering changes.items query.now)) }
+    ensures judged { OnOk result (judged_work (answering changes.items query.now) ≡ Ok (answering changes.items query.now)) }
+    ensures refused { IfErr result (λ status. RefusedAs status (judged_work (answering changes.items query.now))) }
 {
-    match present(alloc, changes) {
-        Ok(triples) => Ok(answer(alloc, triples, query)?),
+    match load(alloc, changes) {
+        Ok(triples) => Ok(answer(alloc, &triples, query)?),
         Err(LoadRefusal::NoMemory) => Err(Status::NoMemory),
         Err(LoadRefusal::Limit(which)) => Err(Status::Limit { which }),
     }
@@ -38,7 +40,7 @@ fn put_answer<O: Sink>(
     query: &PatternQuery,
     out: &mut O,
 ) -> Status
-    ensures { Puts result (record { changes = changes.items; query = query.now }) (O.written out.old) (O.written out.new) (O.faults out.old) (O.faults out.new) }
+    ensures { Puts result (answering changes.items query.now) (O.written out.old) (O.written out.new) (O.faults out.old) (O.faults out.new) }
 {
     match answer_work(alloc, changes, query) {
         Ok(text) => match out.put(&text) {
@@ -49,34 +51,16 @@ fn put_answer<O: Sink>(
     }
 }
 
-// The files of a command, or the status that it asks for by itself.
-fn files_of(command: &Command) -> Result<(&str, &str), Status>
-    ensures ok { IfOk result (λ names. files_of_command command.now ≡ Ok record { data_name = names.0.now; query_name = names.1.now }) }
-    ensures err { IfErr result (λ status. (status ≡ Status.NotYet) × (files_of_command command.now ≡ Err Status.NotYet)) }
-{
-    match command {
-        Command::Query {
-            options,
-            data,
-            query,
-        } => match options.layout {
-            Layout::File(_) => Err(Status::NotYet),
-            Layout::Colour | Layout::Hash => Ok((data.as_str(), query.as_str())),
-        },
-        _ => Err(Status::NotYet),
-    }
-}
-
-// Reads both files and answers.
-fn ask_files<F: Shelf, O: Sink>(
+// Reads both files of a query, and answers.
+fn answer_files<F: Shelf, O: Sink>(
     alloc: Global,
     data_name: &str,
     query_name: &str,
     shelf: &mut F,
     out: &mut O,
 ) -> Status
-    ensures { Says result (Ok record { data_name = data_name.now; query_name = query_name.now }) (F.content shelf.old)
-        record { before = F.faults shelf.old; after = F.faults shelf.new; out_before = O.faults out.old; out_after = O.faults out.new }
+    ensures { (options : Options) → Says result (Ok (command.Query options data_name.now query_name.now)) (F.content shelf.old)
+        (record { before = F.faults shelf.old; after = F.faults shelf.new; out_before = O.faults out.old; out_after = O.faults out.new })
         (O.written out.old) (O.written out.new) }
 {
     let changes = match read_data(alloc, shelf, data_name) {
@@ -90,21 +74,41 @@ fn ask_files<F: Shelf, O: Sink>(
     put_answer(alloc, changes, &query, out)
 }
 
-// Everything but the line on the error output.
-fn ask<F: Shelf, O: Sink>(alloc: Global, words: &[String], shelf: &mut F, out: &mut O) -> Status
-    ensures { Says result (files_of (command_of (map string_bytes words.now))) (F.content shelf.old)
-        record { before = F.faults shelf.old; after = F.faults shelf.new; out_before = O.faults out.old; out_after = O.faults out.new }
+fn perform<F: Shelf, O: Sink>(
+    alloc: Global,
+    command: &Command,
+    shelf: &mut F,
+    out: &mut O,
+) -> Status
+    ensures { Says result (built command.now) (F.content shelf.old)
+        (record { before = F.faults shelf.old; after = F.faults shelf.new; out_before = O.faults out.old; out_after = O.faults out.new })
         (O.written out.old) (O.written out.new) }
 {
-    let Ok(found) = command_of(alloc, words) else {
-        return Status::NoMemory;
-    };
-    let Some(command) = found else {
-        return Status::Usage;
-    };
-    match files_of(&command) {
-        Ok((data_name, query_name)) => ask_files(alloc, data_name, query_name, shelf, out),
-        Err(status) => status,
+    match command {
+        Command::Query {
+            options,
+            data,
+            query,
+        } => match options.layout {
+            Layout::File(_) => Status::NotYet,
+            Layout::Colour | Layout::Hash => {
+                answer_files(alloc, data.as_str(), query.as_str(), shelf, out)
+            }
+        },
+        _ => Status::NotYet,
+    }
+}
+
+// Everything but the line on the error output.
+fn ask<F: Shelf, O: Sink>(alloc: Global, words: &[String], shelf: &mut F, out: &mut O) -> Status
+    ensures { Says result (asked (command_of (map string_bytes words.now))) (F.content shelf.old)
+        (record { before = F.faults shelf.old; after = F.faults shelf.new; out_before = O.faults out.old; out_after = O.faults out.new })
+        (O.written out.old) (O.written out.new) }
+{
+    match command_of(alloc, words) {
+        Ok(Some(command)) => perform(alloc, &command, shelf, out),
+        Ok(None) => Status::Usage,
+        Err(_) => Status::NoMemory,
     }
 }
 
@@ -119,11 +123,11 @@ pub fn run<F: Shelf, O: Sink, E: Sink>(
     err: &mut E,
 ) -> Status
     // What each status says of the words, the files and the output.
-    ensures says { Says result (files_of (command_of (map string_bytes words.now))) (F.content shelf.old)
+    ensures says { Says result (asked (command_of (map string_bytes words.now))) (F.content shelf.old)
         record { before = F.faults shelf.old; after = F.faults shelf.new; out_before = O.faults out.old; out_after = O.faults out.new }
         (O.written out.old) (O.written out.new) }
     // Where nothing failed, the status is the one that is owed, unless memory ran out.
-    ensures complete { Completes result (files_of (command_of (map string_bytes words.now))) (F.content shelf.old)
+    ensures complete { Completes result (asked (command_of (map string_bytes words.now))) (F.content shelf.old)
         record { before = F.faults shelf.old; after = F.faults shelf.new; out_before = O.faults out.old; out_after = O.faults out.new } }
     // The error output has the status's line, and nothing under Done.
     ensures silent { result ≡ Status.Done → E.written err.new ≡ E.written err.old }

@@ -1,4 +1,3 @@
-pub mod Fronts
 pub mod Written
 pub mod Numbers
 pub mod Ranked

@@ -10,9 +10,10 @@ mod spelling;
 mod tests;
 mod value;
 
-pub use comparing::order;
+pub use comparing::{order, order_of_values, order_places};
 pub use id::TermId;
+pub use number::{are_digits, is_digit};
 pub use rdf_meaning::{KnownDatatype, Term, TermKind, Text, Triple, text_of};
 pub use side::SideName;
-pub use spelling::write_term;
+pub use spelling::{write_term, write_text};
 pub use value::{class_of, number_of};

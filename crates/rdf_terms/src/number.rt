@@ -13,7 +13,8 @@ pub(crate) type Rank = (u8, Option<i128>);
 // Out of the form of its datatype.
 const ILL_FORMED: u8 = 8;
 
-fn is_digit(byte: u8) -> bool
+/// Whether a byte is a decimal digit.
+pub fn is_digit(byte: u8) -> bool
     ensures { result ≡ is_digit byte }
 {
     byte.is_ascii_digit()
@@ -34,7 +35,8 @@ fn split_sign(text: &[u8]) -> (bool, &[u8])
     }
 }
 
-fn are_digits(text: &[u8]) -> bool
+/// Whether all bytes are decimal digits; so it is where there are none.
+pub fn are_digits(text: &[u8]) -> bool
     ensures { result ≡ list_all is_digit text.now }
 {
     text.iter().all(|byte| is_digit(*byte))

@@ -1,5 +1,5 @@
 //! How terms are written.
-#![tactic(auto, using(crate::proofs::Fronts::kept_same, crate::proofs::Fronts::kept_append, crate::proofs::Fronts::kept_on))]
+#![tactic(auto, using(crate::specs::Fronts::kept_same, crate::specs::Fronts::kept_append, crate::specs::Fronts::kept_on))]
 
 ghost use Rattle.std.specs.Prelude.{◌≡◌, ◌++◌, ◌<◌, OnOk, OnErr};
 ghost use Rattle.std.specs.List.{flat_map};
@@ -90,7 +90,9 @@ fn write_text_bytes(text: &[u8], into: &mut Vec<u8>) -> Result<(), AllocError>
     Ok(())
 }
 
-fn write_text(text: &[u8], into: &mut Vec<u8>) -> Result<(), AllocError>
+/// Appends a text between quotes, with escapes as N-Triples (RDF 1.1, section 2.4) has them, or a
+/// front of it where there is no memory.
+pub fn write_text(text: &[u8], into: &mut Vec<u8>) -> Result<(), AllocError>
     ensures ok { OnOk result (into.new.items ≡ into.old.items ++ text_spelling text.now) }
     ensures kept { KeepsFront into.old.items into.new.items }
 {

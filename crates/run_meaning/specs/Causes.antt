@@ -1,10 +1,12 @@
 -- Which status comes when.
-use Rattle.std.specs.Prelude.{◌≡◌, ℕ, ◌<◌, List, ◌++◌, take, Option, Some, None, Result, Ok, Err, IfSome, IsOk, IsOkAnd, MatchResult, ◌⊎◌}
+use Rattle.std.specs.Prelude.{◌≡◌, ℕ, ◌<◌, List, [], ◌∷◌, ◌++◌, take, Option, Some, Result, Ok, Err, IfSome, IsTrue, IsOkAnd, MatchResult, ◌⊎◌}
+use Rattle.std.specs.List.{AllByRecursion}
 use Rattle.store_io.specs.Causes.{Rose}
 use Rattle.run_meaning.specs.declared.status.Status.{Status}
 use Rattle.run_meaning.specs.declared.status.Status.TheVariants.{Done, Usage, BadData, Limit, ReadFault, WriteFault, NotYet, NoMemory}
 use Rattle.run_meaning.specs.Codes.{line_of}
-use Rattle.run_meaning.specs.Outcome.{Contents, Files, Work, judged_data, outcome, WhereTold}
+use Rattle.run_meaning.specs.declared.command.Command.{Command}
+use Rattle.run_meaning.specs.Outcome.{Contents, Texts, Work, NamedFile, files_of, outcome}
 use Rattle.run_meaning.specs.FittingText.{Fits, FitsFront}
 
 -- faults of names, before a call and after it, and those of the output
@@ -14,40 +16,51 @@ pub record Faults : Type 0 where
   pub out_before : ℕ
   pub out_after : ℕ
 
+-- each of these files is told, and these are the texts
+abbrev pub Tells : Contents → Texts → List NamedFile → Type 0
+Tells contents texts files = AllByRecursion (λ (file : NamedFile). contents file.name ≡ Some (texts file.name)) files
+
+-- where each file of the command is told, this holds of the outcome
+abbrev pub WhereTold : Contents → Command → (Result Work Status → Type 0) → Type 0
+WhereTold contents command P = (texts : Texts) → Tells contents texts (files_of command) → P (outcome command texts)
+
 -- this holds of the work that the words and the contents ask for
-abbrev pub AsksFor : Result Files Status → Contents → (Work → Type 0) → Type 0
-AsksFor files contents P = IsOkAnd files (λ f. WhereTold contents f (λ d q. IsOkAnd (outcome d q) P))
+abbrev pub AsksFor : Result Command Status → Contents → (Work → Type 0) → Type 0
+AsksFor asked contents P = IsOkAnd asked (λ command. WhereTold contents command (λ o. IsOkAnd o P))
 
 -- the words by themselves, or with the contents of the files, ask for this status
-abbrev pub IsAskedFor : Status → Result Files Status → Contents → Type 0
-IsAskedFor status files contents = MatchResult files (λ f. WhereTold contents f (λ d q. outcome d q ≡ Err status)) (λ owed. owed ≡ status)
+abbrev pub IsAskedFor : Status → Result Command Status → Contents → Type 0
+IsAskedFor status asked contents = MatchResult asked (λ command. WhereTold contents command (λ o. o ≡ Err status)) (λ owed. owed ≡ status)
+
+-- the name is that of one of the files, and every file before it was accepted
+abbrev pub IsReached : List ℕ → Contents → List NamedFile → Type 0
+IsReached name contents [] = ⊥
+IsReached name contents (file ∷ files) = (name ≡ file.name) ⊎ (IfSome (contents file.name) (λ text. IsTrue (file.accepts text)) × IsReached name contents files)
 
 -- a file that the words name could not be read, and every file before it was accepted
-abbrev pub CouldNotRead : List ℕ → Files → Contents → Faults → Type 0
-CouldNotRead name f contents faults =
-    (faults.before name < faults.after name)
-    × ((name ≡ f.data_name) ⊎ ((name ≡ f.query_name) × IfSome (contents f.data_name) (λ d. IsOk (judged_data d))))
+abbrev pub CouldNotRead : List ℕ → Command → Contents → Faults → Type 0
+CouldNotRead name command contents faults = (faults.before name < faults.after name) × IsReached name contents (files_of command)
 
 -- what a status says of the words, the files and the output, whose bytes were `old` and are `new`
-abbrev pub Says : Status → Result Files Status → Contents → Faults → (old new : Option (List ℕ)) → Type 0
-Says Done files contents faults old new = AsksFor files contents (λ work. Fits work old new)
-Says WriteFault files contents faults old new = AsksFor files contents (λ work. FitsFront work old new) × Rose faults.out_before faults.out_after
-Says (ReadFault name) files contents faults old new = IsOkAnd files (λ f. CouldNotRead name f contents faults) × (new ≡ old)
-Says NoMemory files contents faults old new = new ≡ old
-Says Usage files contents faults old new = (files ≡ Err Usage) × (new ≡ old)
-Says (BadData line) files contents faults old new = IsAskedFor (BadData line) files contents × (new ≡ old)
-Says (Limit which) files contents faults old new = IsAskedFor (Limit which) files contents × (new ≡ old)
-Says NotYet files contents faults old new = IsAskedFor NotYet files contents × (new ≡ old)
+abbrev pub Says : Status → Result Command Status → Contents → Faults → (old new : Option (List ℕ)) → Type 0
+Says Done asked contents faults old new = AsksFor asked contents (λ work. Fits work old new)
+Says WriteFault asked contents faults old new = AsksFor asked contents (λ work. FitsFront work old new) × Rose faults.out_before faults.out_after
+Says (ReadFault name) asked contents faults old new = IsOkAnd asked (λ command. CouldNotRead name command contents faults) × (new ≡ old)
+Says NoMemory asked contents faults old new = new ≡ old
+Says Usage asked contents faults old new = (asked ≡ Err Usage) × (new ≡ old)
+Says (BadData line) asked contents faults old new = IsAskedFor (BadData line) asked contents × (new ≡ old)
+Says (Limit which) asked contents faults old new = IsAskedFor (Limit which) asked contents × (new ≡ old)
+Says NotYet asked contents faults old new = IsAskedFor NotYet asked contents × (new ≡ old)
 
 -- no read of a file that the words name failed
-abbrev pub NoReadFailed : Files → Faults → Type 0
-NoReadFailed f faults = (faults.after f.data_name ≡ faults.before f.data_name) × (faults.after f.query_name ≡ faults.before f.query_name)
+abbrev pub NoReadFailed : List NamedFile → Faults → Type 0
+NoReadFailed files faults = AllByRecursion (λ (file : NamedFile). faults.after file.name ≡ faults.before file.name) files
 
 -- where nothing failed, the status is the one that is owed, unless memory ran out
-abbrev pub Completes : Status → Result Files Status → Contents → Faults → Type 0
+abbrev pub Completes : Status → Result Command Status → Contents → Faults → Type 0
 Completes status (Err owed) contents faults = (status ≡ owed) ⊎ (status ≡ NoMemory)
-Completes status (Ok f) contents faults =
-    NoReadFailed f faults → WhereTold contents f (λ d q. MatchResult (outcome d q)
+Completes status (Ok command) contents faults =
+    NoReadFailed (files_of command) faults → WhereTold contents command (λ o. MatchResult o
     (λ work. (Rose faults.out_before faults.out_after → ⊥) → (status ≡ Done) ⊎ (status ≡ NoMemory))
     (λ owed. (status ≡ owed) ⊎ (status ≡ NoMemory)))
 

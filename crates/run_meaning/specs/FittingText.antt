@@ -5,7 +5,7 @@ use Rattle.query_meaning.specs.declared.modifiers.Modifiers.{Modifiers}
 use Rattle.query_meaning.specs.Leaf.{leaf}
 use Rattle.query_meaning.specs.Answer.{ordered_answer}
 use Rattle.query_meaning.specs.AnswerText.{answer_text}
-use Rattle.run_meaning.specs.Outcome.{Work}
+use Rattle.run_meaning.specs.Outcome.{Work, answering}
 
 -- so many numbers, rising from this one
 abbrev pub numbers_from : ℕ → ℕ → List ℕ
@@ -16,10 +16,10 @@ numbers_from first (suc count) = first ∷ numbers_from (first + 1) count
 abbrev pub all_shown : ℕ → Modifiers
 all_shown count = record { shown = numbers_from 0 count; distinct = false; keys = []; skip = 0; most = None }
 
--- the text of the ordered answer to the query over the triples that are present
+-- for an answer: the text of the ordered answer to the query over the triples that are present
 abbrev pub fitting_text : Work → List ℕ
-fitting_text work =
-    answer_text work.query.names (ordered_answer (all_shown (length work.query.names)) (leaf (work.query.pattern ∷ []) (present work.changes)))
+fitting_text (answering changes query) =
+    answer_text query.names (ordered_answer (all_shown (length query.names)) (leaf (query.pattern ∷ []) (present changes)))
 
 -- where the output tells its bytes: the fitting text was appended, and nothing else
 abbrev pub Fits : Work → Option (List ℕ) → Option (List ℕ) → Type 0

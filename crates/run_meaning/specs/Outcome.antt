@@ -1,5 +1,5 @@
 -- What the words and the contents of the named files ask for: the first status that applies, or the work to be done.
-use Rattle.std.specs.Prelude.{◌≡◌, ℕ, List, [], ◌∷◌, length, Option, Some, None, Result, Ok, Err, nat_lt, if◌then◌else◌, IfSome}
+use Rattle.std.specs.Prelude.{◌≡◌, ℕ, Bool, true, false, List, [], ◌∷◌, length, Option, Some, None, Result, Ok, Err, is_ok, nat_lt, if◌then◌else◌}
 use Rattle.line_meaning.specs.declared.change.Change.{Change}
 use Rattle.line_meaning.specs.Changes.{Refused, TooLong, Bad, changes_of}
 use Rattle.pattern_query.specs.Places.{NamedPattern}
@@ -10,7 +10,6 @@ use Rattle.run_meaning.specs.declared.which.Which.{Which}
 use Rattle.run_meaning.specs.declared.which.Which.TheVariants as which
 use Rattle.run_meaning.specs.declared.command.Command.{Command}
 use Rattle.run_meaning.specs.declared.command.Command.TheVariants.{Query, Show, Plan, Stats, Exec, Drill}
-use Rattle.run_meaning.specs.declared.command.Options.{Options}
 use Rattle.run_meaning.specs.declared.command.Layout.{Layout}
 use Rattle.run_meaning.specs.declared.command.Layout.TheVariants.{Colour, Hash, File}
 use Rattle.run_meaning.specs.Limits.{passed_limit}
@@ -19,35 +18,14 @@ use Rattle.run_meaning.specs.Limits.{passed_limit}
 abbrev pub Contents : Type 0
 Contents = List ℕ → Option (List ℕ)
 
--- the names of the data file and of the query file
-pub record Files : Type 0 where
-  pub data_name : List ℕ
-  pub query_name : List ℕ
+-- the text of each name
+abbrev pub Texts : Type 0
+Texts = List ℕ → List ℕ
 
--- a colouring file isn't read yet
-abbrev pub query_files : Layout → Files → Result Files Status
-query_files Colour files = Ok files
-query_files Hash files = Ok files
-query_files (File name) files = Err NotYet
-
--- of the commands `query` alone is built
-abbrev pub files_of_command : Command → Result Files Status
-files_of_command (Query options data_name query_name) = query_files options.layout (record { data_name = data_name; query_name = query_name })
-files_of_command (Show options data_name query_name) = Err NotYet
-files_of_command (Plan options data_name query_name) = Err NotYet
-files_of_command (Stats options data_name) = Err NotYet
-files_of_command (Exec pieces file_name) = Err NotYet
-files_of_command (Drill options count seed) = Err NotYet
-
--- the files that the words ask for, or the status that they ask for by themselves
-abbrev pub files_of : Option Command → Result Files Status
-files_of None = Err Usage
-files_of (Some command) = files_of_command command
-
--- the changes of the data, and the query over what is present after them
-pub record Work : Type 0 where
-  pub changes : List Change
-  pub query : NamedPattern
+-- what is to be done
+pub data Work : Type 0 where
+  -- answering the query over what is present after the changes
+  answering : List Change → NamedPattern → Work
 
 abbrev pub and_then : {X Y : Type 0} → Result X Status → (X → Result Y Status) → Result Y Status
 and_then (Ok x) f = f x
@@ -76,13 +54,49 @@ within_limit work (Some which) = Err (Limit which)
 
 -- the limits on triples and terms
 abbrev pub judged_work : Work → Result Work Status
-judged_work work = within_limit work (passed_limit work.changes)
+judged_work (answering changes query) = within_limit (answering changes query) (passed_limit changes)
+
+-- a file that a command reads, and which texts of it are accepted
+pub record NamedFile : Type 0 where
+  pub name : List ℕ
+  pub accepts : List ℕ → Bool
+
+-- the files of a command, in the order in which they are read
+abbrev pub files_of : Command → List NamedFile
+files_of (Query options data_name query_name) =
+    record { name = data_name; accepts = λ text. is_ok (judged_data text) } ∷ record { name = query_name; accepts = λ text. is_ok (judged_query text) } ∷ []
+files_of (Show options data_name query_name) = []
+files_of (Plan options data_name query_name) = []
+files_of (Stats options data_name) = []
+files_of (Exec pieces file_name) = []
+files_of (Drill options count seed) = []
+
+-- a colouring file isn't read yet
+abbrev pub is_colouring_file : Layout → Bool
+is_colouring_file Colour = false
+is_colouring_file Hash = false
+is_colouring_file (File name) = true
+
+-- a command that is built, or else the status that it asks for by itself; of the commands `query` alone is built
+abbrev pub built : Command → Result Command Status
+built (Query options data_name query_name) = if is_colouring_file options.layout then Err NotYet else Ok (Query options data_name query_name)
+built (Show options data_name query_name) = Err NotYet
+built (Plan options data_name query_name) = Err NotYet
+built (Stats options data_name) = Err NotYet
+built (Exec pieces file_name) = Err NotYet
+built (Drill options count seed) = Err NotYet
+
+-- the command that the words ask for, or the status that they ask for by themselves
+abbrev pub asked : Option Command → Result Command Status
+asked None = Err Usage
+asked (Some command) = built command
 
 -- the data file goes before the query file, and both before the work; in one file its length goes before its content
-abbrev pub outcome : List ℕ → List ℕ → Result Work Status
-outcome data_text query_text =
-    and_then (judged_data data_text) (λ changes. and_then (judged_query query_text) (λ query. judged_work (record { changes = changes; query = query })))
-
--- where both files are told, this holds of their texts
-abbrev pub WhereTold : Contents → Files → (List ℕ → List ℕ → Type 0) → Type 0
-WhereTold contents files P = IfSome (contents files.data_name) (λ d. IfSome (contents files.query_name) (λ q. P d q))
+abbrev pub outcome : Command → Texts → Result Work Status
+outcome (Query options data_name query_name) texts =
+    and_then (judged_data (texts data_name)) (λ changes. and_then (judged_query (texts query_name)) (λ query. judged_work (answering changes query)))
+outcome (Show options data_name query_name) texts = Err NotYet
+outcome (Plan options data_name query_name) texts = Err NotYet
+outcome (Stats options data_name) texts = Err NotYet
+outcome (Exec pieces file_name) texts = Err NotYet
+outcome (Drill options count seed) texts = Err NotYet

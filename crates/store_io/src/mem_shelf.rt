@@ -117,6 +117,9 @@ impl Shelf for MemShelf {
         ensures content { (other : List ℕ) → content_of self.new other ≡ content_of self.old other }
         ensures counts { CountsFaults (faults_among self.old.failed) (faults_among self.new.failed) name.now }
         ensures failed { IsErrOf result ShelfError.Failed → faults_among self.old.failed name.now < faults_among self.new.failed name.now }
+        ensures notes_one { IsErrOf result ShelfError.Failed → self.new.failed ≡ self.old.failed ++ name.now ∷ [] }
+        ensures no_fault { OnOk result (self.new.failed ≡ self.old.failed) }
+        ensures no_note { IsErrOf result ShelfError.NoMemory → self.new.failed ≡ self.old.failed }
         ensures fails_only_so { IsErrOf result ShelfError.Failed → IsTrue (next_fails self.old name.now) }
         ensures fails_so { IsOk result → IsTrue (not (next_fails self.old name.now)) }
         ensures reads { self.new.reads ≡ next_read self.old }

@@ -1,6 +1,0 @@
-use Rattle.std.proofs.Common.{◌≡◌, ◌++◌, ◌-◌}
-use Rattle.run_meaning.specs.FittingText.{numbers_from}
-use Rattle.db2rdf_top.proofs.answer.variables_below.Given as goal
-
-abbrev pub invariant-loop-number : goal.invariant-loop-number
-invariant-loop-number l = l.variables.items ++ numbers_from l.number (l.count - l.number) ≡ numbers_from 0 l.count

@@ -1,0 +1,8 @@
+//! The answer to a query of one pattern, found triple by triple.
+#![tactic(auto)]
+
+mod lent;
+mod solutions;
+mod texts;
+
+pub use texts::answer;

@@ -1,0 +1,4 @@
+pub mod Refusals
+pub mod Held
+pub mod Taking
+pub mod PresentLaws

@@ -1,0 +1,5 @@
+//! Tests of the triples that are held after changes.
+#![tactic(auto)]
+
+#[cfg(test)]
+mod held;

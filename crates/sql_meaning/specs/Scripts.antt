@@ -1,6 +1,8 @@
 -- What a script has: its depth, its primary references, and the forms that its text can have.
 use Rattle.std.specs.Prelude.{Bool, true, false, not, ◌&&◌, ◌||◌, nat_le, nat_lt, List, [], ◌∷◌, ℕ, suc, ◌+◌, ◌-◌, ◌^◌, max, min, length, map, Option, Some, None, is_none, bytes_eq, codes, if◌then◌else◌}
-use Rattle.sql_meaning.specs.Tokens.{is_name}
+use Rattle.std.specs.Str.{is_utf8}
+use Rattle.table_meaning.specs.Ints.{is_wide_int}
+use Rattle.table_meaning.specs.Names.{is_name}
 use Rattle.sql_meaning.specs.declared.expression.SqlExpr.{SqlExpr, fold-SqlExpr}
 use Rattle.sql_meaning.specs.declared.expression.SqlExpr.TheOpen as o
 use Rattle.sql_meaning.specs.declared.expression.SqlExpr.TheOpen.{SqlExpr-F}
@@ -106,11 +108,11 @@ refs_of s = total (map step_refs s.steps) + body_refs s.last
 abbrev pub up_to : ℕ → ℕ → ℕ
 up_to bits n = min n (2 ^ bits - 1)
 
--- names are names, and lists have the lengths that their texts have
+-- names are names, ints are within 128 bits, texts are UTF-8, and lists have the lengths that their texts have
 abbrev pub form_step : SqlExpr-F Bool Bool → Bool
 form_step (o.Name a c) = is_name a && is_name c
-form_step (o.Int n) = true
-form_step (o.Text s) = true
+form_step (o.Int n) = is_wide_int n
+form_step (o.Text s) = is_utf8 s
 form_step (o.Truth b) = true
 form_step (o.Null k) = true
 form_step (o.Equal a b) = a && b

@@ -1,8 +1,8 @@
 -- How a text is cut into tokens.
-use Rattle.std.specs.Prelude.{Bool, true, false, ◌==◌, ◌&&◌, ◌||◌, nat_le, nat_lt, if◌then◌else◌, List, [], ◌∷◌, ℕ, ℤ, pos, negsuc, suc, ◌+◌, ◌≡◌, ◌^◌, length, take, drop, Option, Some, None, is_none, bytes_eq, IsUtf8}
-use Rattle.std.specs.Fmt.{signed_decimal}
-use Rattle.std.specs.Str.Parse.{signed_digits_value}
+use Rattle.std.specs.Prelude.{Bool, true, false, ◌==◌, ◌||◌, if◌then◌else◌, List, [], ◌∷◌, ℕ, ℤ, suc, ◌+◌, ◌≡◌, take, drop, Option, Some, None, IsUtf8}
 use Rattle.rdf_meaning.specs.Characters.{is_letter, is_digit}
+use Rattle.table_meaning.specs.Ints.{int_of}
+use Rattle.table_meaning.specs.Names.{is_name}
 use Rattle.sql_meaning.specs.Marks.{word_of, sign_of}
 use Rattle.sql_meaning.specs.declared.token.Mark.{Mark}
 use Rattle.sql_meaning.specs.declared.token.Token.{Token}
@@ -27,26 +27,6 @@ run_len (b ∷ bs) = if is_run_byte b then suc (run_len bs) else 0
 abbrev pub begins_with : (ℕ → Bool) → List ℕ → Bool
 begins_with p [] = false
 begins_with p (b ∷ bs) = p b
-
-abbrev pub all_bytes : (ℕ → Bool) → List ℕ → Bool
-all_bytes p [] = true
-all_bytes p (b ∷ bs) = p b && all_bytes p bs
-
--- a letter and up to 63 letters, digits or `_`, but no capital word
-abbrev pub is_name : List ℕ → Bool
-is_name bs = begins_with is_letter bs && all_bytes is_run_byte bs && nat_le (length bs) 64 && is_none (word_of bs)
-
--- within 128 bits
-abbrev pub is_within : ℤ → Bool
-is_within (pos n) = nat_lt n (2 ^ 127)
-is_within (negsuc n) = nat_lt n (2 ^ 127)
-
-abbrev pub int_shown : ℤ → List ℕ → Option ℤ
-int_shown n bs = if is_within n && bytes_eq (signed_decimal n) bs then Some n else None
-
--- the number within 128 bits whose decimal digits these are: no leading zero, and `-` in front of a negative one
-abbrev pub int_of : List ℕ → Option ℤ
-int_of bs = int_shown (signed_digits_value 10 bs) bs
 
 -- what a text between quotes holds, and how many bytes it takes with the quote behind it
 pub record Quoted : Type 0 where

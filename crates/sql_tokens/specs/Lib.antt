@@ -1,4 +1,3 @@
-pub mod Ints
 pub mod Runs
 pub mod Quotes
 pub mod Pieces

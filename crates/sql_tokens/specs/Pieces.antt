@@ -6,7 +6,8 @@ use Rattle.std.proofs.lemmas.List.{append-nil}
 use Rattle.std.proofs.Common.{length-drop}
 use Rattle.rdf_meaning.specs.Characters.{is_digit}
 use Rattle.sql_meaning.specs.Marks.{sign_of}
-use Rattle.sql_meaning.specs.Tokens.{is_blank, is_run_byte, run_len, run_token, int_token, int_of, begins_with, opening_of, sign_opening, placed, Cut, cut_end, cut_blank, cut_sign, cut_run, cut_negative, cut_text, cut_joined, cut_minus, cut_endless, cut_no_utf8, cut_nothing, IsCut}
+use Rattle.table_meaning.specs.Ints.{int_of}
+use Rattle.sql_meaning.specs.Tokens.{is_blank, is_run_byte, run_len, run_token, int_token, begins_with, opening_of, sign_opening, placed, Cut, cut_end, cut_blank, cut_sign, cut_run, cut_negative, cut_text, cut_joined, cut_minus, cut_endless, cut_no_utf8, cut_nothing, IsCut}
 use Rattle.sql_meaning.specs.declared.token.Mark.{Mark}
 use Rattle.sql_meaning.specs.declared.token.Token.{Token}
 use Rattle.sql_meaning.specs.declared.token.Token.TheVariants as t

@@ -1,6 +1,7 @@
 //! The cut of a text into tokens.
 
 ghost use Rattle.std.specs.Prelude.{◌≡◌, ◌<◌, ◌≤◌, IfOk, IsTrue, length, drop};
+ghost use Rattle.std.specs.List.{list_all};
 ghost use Rattle.sql_meaning.specs.Tokens as cut;
 ghost use Rattle.sql_tokens.specs.Pieces.{Goes, Opens, TakesSome};
 ghost use Rattle.rdf_meaning.specs.Characters as characters;
@@ -50,7 +51,7 @@ fn starts_with_letter(bytes: &[u8]) -> bool
 // The token of a whole run.
 #[tactic(auto, using(crate::specs::Runs::number_made))]
 fn run_token(alloc: Global, run: &[u8]) -> Result<Token, AllocError>
-    requires { IsTrue (cut.all_bytes cut.is_run_byte run.now) }
+    requires { IsTrue (list_all cut.is_run_byte run.now) }
     ensures { IfOk result (λ token. token ≡ cut.run_token run.now) }
 {
     if starts_with_letter(run) {

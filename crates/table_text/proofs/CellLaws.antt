@@ -1,10 +1,10 @@
 -- Cells: what is spelled is read, and what is read is spelled; no tab and no line feed stands in one.
-use Rattle.std.proofs.Common.{◌≡◌, ◌⊎◌, inl, inr, ℕ, ℤ, ◌<◌, ◌≤◌, Bool, true, false, not, ◌||◌, cond, eqb, List, [], ◌∷◌, ◌++◌, length, refl, sym, ap, subst, ◌∙◌, arith}
-use Rattle.std.specs.Prelude.{Option, Some, None, option_map, codes}
+use Rattle.std.proofs.Common.{◌≡◌, ◌⊎◌, inl, inr, ℕ, ℤ, ◌<◌, ◌≤◌, true, false, ◌||◌, cond, eqb, List, [], ◌∷◌, ◌++◌, refl, sym, ap, subst, ◌∙◌, arith}
+use Rattle.std.specs.Prelude.{Some, codes}
 use Rattle.std.specs.Cmp.{first_so, second_so}
 use Rattle.std.specs.List.{flat_map, list_all}
-use Rattle.std.specs.Str.{is_utf8, bytes_eq}
-use Rattle.std.proofs.lemmas.Bool.{cases_Bool, eqb-true, ne_eqb, leb-true, or_cases, false≢true, not-true}
+use Rattle.std.specs.Str.{bytes_eq}
+use Rattle.std.proofs.lemmas.Bool.{cases_Bool, eqb-true, ne_eqb, leb-true, or_cases, false≢true}
 use Rattle.std.proofs.lemmas.List.Folds.{list_all-append}
 use Rattle.std.proofs.lemmas.Slice.Eq.{bytes_eq-Decides}
 use Rattle.rdf_meaning.specs.Characters.{is_digit, is_letter, is_small_letter, is_between}
@@ -18,9 +18,8 @@ use Rattle.table_meaning.specs.Ints.{int_of, int_text, is_int_form, is_digits, i
 use Rattle.table_meaning.specs.IntLaws.{int_of-spelled, int_of-spells, int_of-form}
 use Rattle.table_meaning.specs.Names.{is_name, is_name_byte}
 use Rattle.table_meaning.specs.TableText.{is_held_cell, is_truth}
-use Rattle.table_meaning.specs.TableLaws.{or_left, or_right}
 use Rattle.table_meaning.specs.Tables.{has_kind}
-use Rattle.table_text.specs.Reading.{cell_of, value_of, text_of, is_other, is_raw}
+use Rattle.table_text.specs.Reading.{cell_of, value_of, text_of, is_other}
 use Rattle.table_text.proofs.NameLaws.{name_bytes}
 use Rattle.table_text.proofs.TextLaws.{chosen, map_some, text_of-spelled, text_of-spells, raw_byte}
 

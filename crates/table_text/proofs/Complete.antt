@@ -1,9 +1,8 @@
 -- The lines of tables are read as these tables: by steps, and so as no others.
-use Rattle.std.proofs.Common.{◌≡◌, ◌⊎◌, inl, inr, ℕ, ◌+◌, Bool, true, false, not, ◌&&◌, ◌||◌, cond, eqb, leb, List, [], ◌∷◌, ◌++◌, length, take, drop, map, refl, sym, ap, subst, ◌∙◌, append_assoc, append-nil, arith}
+use Rattle.std.proofs.Common.{◌≡◌, ◌⊎◌, inl, inr, ℕ, true, false, not, ◌&&◌, cond, eqb, leb, List, [], ◌∷◌, ◌++◌, take, drop, map, refl, sym, ap, ◌∙◌, append_assoc, append-nil, arith}
 use Rattle.std.specs.Prelude.{Option, Some, None, codes}
 use Rattle.std.specs.Cmp.{first_so, second_so}
 use Rattle.std.specs.List.{flat_map, list_all}
-use Rattle.std.specs.Str.{bytes_eq}
 use Rattle.std.proofs.lemmas.Bool.{cases_Bool, eqb-true, leb-true, false≢true, not-true}
 use Rattle.std.proofs.lemmas.List.Folds.{list_all-append}
 use Rattle.std.proofs.lemmas.Slice.Eq.{bytes_eq-Decides}
@@ -13,25 +12,25 @@ use Rattle.table_meaning.specs.declared.cell.Cell.{Cell}
 use Rattle.table_meaning.specs.declared.cell.Cell.TheVariants.{Null, Int, Text, Truth}
 use Rattle.table_meaning.specs.declared.schema.Column.{Column}
 use Rattle.table_meaning.specs.CellText.{cell_text, row_line, tabbed, after_tab}
-use Rattle.table_meaning.specs.Ints.{int_text, is_int_form, is_digits, is_wide_int}
+use Rattle.table_meaning.specs.Ints.{int_text, is_int_form, is_digits}
 use Rattle.table_meaning.specs.IntLaws.{int_of-form, int_of-spelled}
 use Rattle.table_meaning.specs.Names.{is_name}
 use Rattle.table_meaning.specs.Schemas.{is_schema}
-use Rattle.table_meaning.specs.TableText.{is_held_cell, is_plain_column, is_plain_table, is_held_table, column_text, head_line, table_lines, tables_lines, first_line, is_spelled_set}
-use Rattle.table_meaning.specs.Tables.{NamedTable, is_row, are_rows, is_table, is_table_set, has_table}
-use Rattle.table_text.specs.Reading.{◌>>=◌, before, with_head, with_cells, with_row, head_of, cells_of, fields_of, begins_table, step}
+use Rattle.table_meaning.specs.TableText.{is_held_cell, is_plain_column, is_plain_table, is_held_table, column_text, head_line, table_lines, tables_lines, is_spelled_set}
+use Rattle.table_meaning.specs.Tables.{NamedTable, is_row, are_rows, has_table}
+use Rattle.table_text.specs.Reading.{◌>>=◌, before, with_head, with_row, head_of, cells_of, fields_of, begins_table, step}
 use Rattle.table_text.proofs.TextLaws.{bind_some}
 use Rattle.table_text.proofs.RowLaws.{row-spelled}
 use Rattle.table_text.proofs.HeadLaws.{head_of-spelled}
 use Rattle.table_text.proofs.StepLaws.{table_within}
-use Rattle.table_text.proofs.Sound.{AreFit, fit_of}
+use Rattle.table_text.proofs.Sound.{fit_of}
 
 -- the tables after further lines
 abbrev pub run : List NamedTable → List (List ℕ) → Option (List NamedTable)
 run tables [] = Some tables
 run tables (line ∷ lines) = step tables line >>= (λ next. run next lines)
 
-run-append : (tables : List NamedTable) (xs ys : List (List ℕ)) → run tables (xs ++ ys) ≡ (run tables xs >>= (λ next. run next ys))
+pub run-append : (tables : List NamedTable) (xs ys : List (List ℕ)) → run tables (xs ++ ys) ≡ (run tables xs >>= (λ next. run next ys))
 run-append tables [] ys = refl
 run-append tables (x ∷ xs) ys = by (step tables x) (λ t. run-append t xs ys)
   where
@@ -127,7 +126,7 @@ table_run done more t set =
     ap (λ o. o >>= (λ next. run next (map row_line t.rows))) (head_goes_on done t.name t.schema (first_so _ _ part.0) schema plain within.0)
     ∙ rows_run done (with_rows t []) t.rows schema plain (second_so (is_schema t.schema) _ within.1) part.1
 
-tables_run : (done more : List NamedTable) → is_spelled_set (done ++ more) ≡ true → run done (flat_map table_lines more) ≡ Some (done ++ more)
+pub tables_run : (done more : List NamedTable) → is_spelled_set (done ++ more) ≡ true → run done (flat_map table_lines more) ≡ Some (done ++ more)
 tables_run done [] set = ap (λ (ts : List NamedTable). Some ts) (sym (append-nil done))
 tables_run done (t ∷ more) set =
     let again : is_spelled_set ((done ++ t ∷ []) ++ more) ≡ true = ap is_spelled_set (append_assoc done (t ∷ []) more) ∙ set in

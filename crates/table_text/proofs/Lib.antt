@@ -12,3 +12,5 @@ pub mod HeadLaws
 pub mod Sound
 pub mod Complete
 pub mod Written
+pub mod LineLaws
+pub mod OneOutcome

@@ -1,10 +1,10 @@
 -- What was read so far, and what follows from the next line.
-use Rattle.std.proofs.Common.{◌≡◌, ◌⊎◌, inl, inr, ℕ, suc, ◌+◌, ◌-◌, ◌≤◌, Bool, true, false, List, [], ◌∷◌, ◌++◌, length, take, refl, sym, ap, subst, ◌∙◌, append_assoc, append-nil, arith}
-use Rattle.std.specs.Prelude.{Option, Some, None}
+use Rattle.std.proofs.Common.{◌≡◌, ◌⊎◌, inl, inr, ℕ, ◌+◌, ◌-◌, true, false, List, [], ◌∷◌, ◌++◌, length, take, refl, sym, ap, ◌∙◌, append_assoc, append-nil, arith}
+use Rattle.std.specs.Prelude.{Some, None}
 use Rattle.std.specs.Cmp.{first_so, second_so}
-use Rattle.std.specs.List.{flat_map, list_all}
+use Rattle.std.specs.List.{list_all}
 use Rattle.std.specs.Str.{bytes_eq}
-use Rattle.std.proofs.Math.Seq.{take-append_seam, take-length}
+use Rattle.std.proofs.Math.Seq.{take-append_seam}
 use Rattle.std.proofs.lemmas.Bool.{both_ways}
 use Rattle.std.proofs.lemmas.Grind.{flat_map-append}
 use Rattle.std.proofs.lemmas.List.{length-append}
@@ -12,7 +12,7 @@ use Rattle.std.proofs.lemmas.List.Folds.{list_all-append}
 use Rattle.std.proofs.lemmas.Slice.Eq.{bytes_eq-Decides}
 use Rattle.table_meaning.specs.CellText.{ended}
 use Rattle.table_meaning.specs.Tables.{NamedTable, is_table_set}
-use Rattle.table_meaning.specs.TableText.{is_spelled_set, table_text, text_of_lines, tables_lines, sql_line, first_line, lines_of, table_lines, TablesRead, IsFirstBadLine, BeginTables, EndTables}
+use Rattle.table_meaning.specs.TableText.{is_spelled_set, table_text, text_of_lines, tables_lines, sql_line, first_line, lines_of, TablesRead, IsFirstBadLine, BeginTables, EndTables}
 use Rattle.table_text.specs.Reading.{is_line, step}
 use Rattle.table_text.proofs.Cuts.{lines_of-ended}
 use Rattle.table_text.proofs.Sound.{step_goes}
@@ -58,7 +58,7 @@ read_whole bytes rest text after tables line so is sql =
 pub set_of : (bytes rest : List ℕ) (tables : List NamedTable) (line : ℕ) → ReadSoFar bytes rest tables line → is_table_set tables ≡ true
 set_of bytes rest tables line so = first_so _ _ so.set
 
-cut_lines : (lines : List (List ℕ)) (rest : List ℕ) → list_all is_line lines ≡ true → lines_of (text_of_lines lines ++ rest) ≡ lines ++ lines_of rest
+pub cut_lines : (lines : List (List ℕ)) (rest : List ℕ) → list_all is_line lines ≡ true → lines_of (text_of_lines lines ++ rest) ≡ lines ++ lines_of rest
 cut_lines [] rest h = refl
 cut_lines (line ∷ lines) rest h =
     ap lines_of (append_assoc (ended line) (text_of_lines lines) rest) ∙ lines_of-ended line (text_of_lines lines ++ rest) (first_so _ _ h)

@@ -1,27 +1,21 @@
 -- Rows and heads: what is spelled is read, and what is read is spelled.
-use Rattle.std.proofs.Common.{◌≡◌, ◌⊎◌, inl, inr, ℕ, suc, ◌+◌, ◌-◌, ◌<◌, ◌≤◌, Bool, true, false, not, ◌&&◌, cond, eqb, List, [], ◌∷◌, ◌++◌, length, take, drop, map, refl, sym, ap, subst, ◌∙◌, append_assoc, append-nil, arith}
-use Rattle.std.specs.Prelude.{Option, Some, None, option_map, codes, if◌then◌else◌}
+use Rattle.std.proofs.Common.{◌≡◌, ◌⊎◌, inl, inr, ℕ, true, false, cond, eqb, List, [], ◌∷◌, map, refl, sym, ap, subst, ◌∙◌, append-nil}
+use Rattle.std.specs.Prelude.{Some, if◌then◌else◌}
 use Rattle.std.specs.Cmp.{first_so, second_so}
-use Rattle.std.specs.List.{flat_map, list_all}
-use Rattle.std.specs.Str.{bytes_eq}
-use Rattle.std.proofs.Math.Seq.{take-append_seam, drop-append_seam}
-use Rattle.std.proofs.lemmas.Bool.{cases_Bool, eqb-true, false≢true, not-true}
-use Rattle.std.proofs.lemmas.List.{take-append-drop, length-append}
-use Rattle.std.proofs.lemmas.List.Folds.{list_all-append}
-use Rattle.std.proofs.lemmas.Slice.Eq.{bytes_eq-Decides}
+use Rattle.std.specs.List.{list_all}
+use Rattle.std.proofs.lemmas.Bool.{cases_Bool, eqb-true}
 use Rattle.table_meaning.specs.declared.kind.Kind.{Kind}
 use Rattle.table_meaning.specs.declared.kind.Kind.TheVariants as kinds
 use Rattle.table_meaning.specs.declared.cell.Cell.{Cell}
 use Rattle.table_meaning.specs.declared.schema.Column.{Column}
-use Rattle.table_meaning.specs.CellText.{cell_text, row_line, tabbed, after_tab}
+use Rattle.table_meaning.specs.CellText.{cell_text, row_line, tabbed}
 use Rattle.table_meaning.specs.Names.{is_name}
-use Rattle.table_meaning.specs.Schemas.{is_schema}
-use Rattle.table_meaning.specs.TableText.{is_held_cell, is_truth, is_plain_column, column_text, head_line, kind_mark, onto_first}
+use Rattle.table_meaning.specs.TableText.{is_held_cell, is_truth, is_plain_column, onto_first}
 use Rattle.table_meaning.specs.Tables.{is_row, has_kind}
-use Rattle.table_text.specs.Reading.{◌>>=◌, before, fields_of, cell_of, cells_of, is_other, column_as, column_of, columns_of, schema_of, head_in, head_of, name_of, or_else}
+use Rattle.table_text.specs.Reading.{before, fields_of, cell_of, cells_of, is_other}
 use Rattle.table_text.proofs.Cuts.{fields_of-before, fields_of-alone}
-use Rattle.table_text.proofs.TextLaws.{chosen, bind_some, map_some, before_some}
-use Rattle.table_text.proofs.CellLaws.{cell_of-spelled, cell_of-spells, cell_other, name_other, IsStop, tab_stops, SpellsCell}
+use Rattle.table_text.proofs.TextLaws.{chosen, bind_some, before_some}
+use Rattle.table_text.proofs.CellLaws.{cell_of-spelled, cell_of-spells, cell_other, IsStop, tab_stops, SpellsCell}
 
 -- the parts between tabs are the parts that were put together
 pub fields_of-tabbed : (piece : List ℕ) (pieces : List (List ℕ)) → list_all (list_all (is_other 9)) (piece ∷ pieces) ≡ true → fields_of (tabbed (piece ∷ pieces)) ≡ piece ∷ pieces

@@ -1,9 +1,8 @@
 -- A line that goes on with tables is the next of their lines.
-use Rattle.std.proofs.Common.{◌≡◌, ◌⊎◌, inl, inr, ℕ, ◌+◌, Bool, true, false, not, ◌&&◌, cond, List, [], ◌∷◌, ◌++◌, length, take, drop, map, refl, sym, ap, subst, ◌∙◌, append_assoc, append-nil, arith}
+use Rattle.std.proofs.Common.{◌≡◌, ◌⊎◌, inl, inr, ℕ, Bool, true, false, cond, List, [], ◌∷◌, ◌++◌, take, drop, map, refl, sym, ap, subst, ◌∙◌, append_assoc, append-nil}
 use Rattle.std.specs.Prelude.{Option, Some, None, codes}
 use Rattle.std.specs.Cmp.{first_so, second_so}
 use Rattle.std.specs.List.{flat_map, list_all}
-use Rattle.std.specs.Str.{bytes_eq}
 use Rattle.std.proofs.lemmas.Bool.{cases_Bool}
 use Rattle.std.proofs.lemmas.Grind.{flat_map-append}
 use Rattle.std.proofs.lemmas.List.{take-append-drop, map-append}
@@ -12,12 +11,11 @@ use Rattle.std.proofs.lemmas.Slice.Eq.{bytes_eq-Decides}
 use Rattle.table_meaning.specs.declared.cell.Cell.{Cell}
 use Rattle.table_meaning.specs.declared.schema.Column.{Column}
 use Rattle.table_meaning.specs.CellText.{row_line, tabbed}
-use Rattle.table_meaning.specs.Names.{is_name}
 use Rattle.table_meaning.specs.Schemas.{is_schema, are_distinct}
-use Rattle.table_meaning.specs.TableText.{is_held_cell, is_plain_column, is_plain_table, is_held_table, column_text, head_line, table_lines, tables_lines, first_line, is_spelled_set}
+use Rattle.table_meaning.specs.TableText.{is_held_cell, is_plain_table, is_held_table, column_text, head_line, table_lines, tables_lines, first_line, is_spelled_set}
 use Rattle.table_meaning.specs.TableLaws.{is_table_set-push}
 use Rattle.table_meaning.specs.Tables.{NamedTable, is_row, are_rows, is_table, is_table_set, table_name, has_table}
-use Rattle.table_text.specs.Reading.{◌>>=◌, before, with_head, with_cells, with_row, head_of, cells_of, fields_of, begins_table, step}
+use Rattle.table_text.specs.Reading.{with_head, with_cells, with_row, head_of, cells_of, fields_of, begins_table, step}
 use Rattle.table_text.proofs.TextLaws.{chosen, bind_some, before_some, map_some}
 use Rattle.table_text.proofs.RowLaws.{row-spells}
 use Rattle.table_text.proofs.HeadLaws.{head_of-spells}

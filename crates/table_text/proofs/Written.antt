@@ -1,7 +1,7 @@
 -- Loops that write, and what all their turns write.
-use Rattle.std.proofs.Common.{◌≡◌, ℕ, zero, suc, ◌+◌, ◌≤◌, ◌<◌, Bool, true, List, [], ◌∷◌, ◌++◌, length, get_or, take, map, refl, sym, ap, subst, ◌∙◌, append_assoc, append-nil, slice_get, arith}
+use Rattle.std.proofs.Common.{◌≡◌, ℕ, zero, suc, ◌+◌, ◌≤◌, true, List, [], ◌∷◌, ◌++◌, length, get_or, take, map, refl, sym, ap, subst, ◌∙◌, append_assoc, append-nil, slice_get, arith}
 use Rattle.std.specs.Prelude.{unwrap_or}
-use Rattle.std.specs.Cmp.{first_so, second_so}
+use Rattle.std.specs.Cmp.{second_so}
 use Rattle.std.specs.List.{flat_map, list_all}
 use Rattle.std.proofs.Math.Numerals.{add-one}
 use Rattle.std.proofs.Math.Seq.{take-length}
@@ -11,9 +11,9 @@ use Rattle.std.proofs.lemmas.Option.{unwrap_or-slice_get}
 use Rattle.table_meaning.specs.declared.cell.Cell.{Cell}
 use Rattle.table_meaning.specs.declared.cell.Cell.TheVariants.{Null}
 use Rattle.table_meaning.specs.CellText.{cell_text, ended, row_line, tabbed, after_tab}
-use Rattle.table_meaning.specs.TableText.{table_lines, table_text, text_of_lines, head_line, tables_lines, first_line}
+use Rattle.table_meaning.specs.TableText.{table_lines, table_text, text_of_lines, head_line, first_line}
 use Rattle.table_meaning.specs.TableLaws.{is_row-length, list_all-get}
-use Rattle.table_meaning.specs.Tables.{NamedTable, no_table, table_at, row_at, is_row, are_rows, is_table, is_table_set}
+use Rattle.table_meaning.specs.Tables.{NamedTable, no_table, table_at, row_at, is_row, is_table, is_table_set}
 use Rattle.rel_cells.specs.Fronts.{KeepsFront, kept_append, kept_on}
 use Rattle.table_text.specs.Writing.{tab_before, row_front, rows_front, table_front, tables_front}
 

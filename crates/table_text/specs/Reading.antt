@@ -1,9 +1,8 @@
 -- What a line of tables reads as, found from its front.
-use Rattle.std.specs.Prelude.{◌≡◌, ℕ, ◌+◌, ◌-◌, Bool, true, false, ◌&&◌, ◌||◌, ◌==◌, not, if◌then◌else◌, List, [], ◌∷◌, ◌++◌, length, take, drop, Option, Some, None, option_map, nat_eq, codes}
+use Rattle.std.specs.Prelude.{◌≡◌, ℕ, ◌+◌, ◌-◌, Bool, true, false, ◌||◌, ◌==◌, not, if◌then◌else◌, List, [], ◌∷◌, ◌++◌, length, take, drop, Option, Some, None, option_map, codes}
 use Rattle.std.specs.Borrow.{Bor}
 use Rattle.std.specs.List.{list_all}
 use Rattle.std.specs.Str.{bytes_eq, is_utf8}
-use Rattle.rdf_meaning.specs.Terms.{is_empty}
 use Rattle.table_meaning.specs.declared.kind.Kind.{Kind}
 use Rattle.table_meaning.specs.declared.kind.Kind.TheVariants as kinds
 use Rattle.table_meaning.specs.declared.cell.Cell.{Cell}

@@ -3,6 +3,7 @@
 
 mod fields;
 mod heads;
+mod laws;
 mod lines;
 mod names;
 mod quoted;
@@ -11,6 +12,7 @@ mod rows;
 mod tables;
 mod writer;
 
+pub use laws::texts_have_one_outcome;
 pub use refusal::TableRefusal;
 pub use tables::{ReadTables, read_tables};
 pub use writer::write_tables;

@@ -1,4 +1,4 @@
-use Rattle.std.proofs.Common.{◌≡◌, ◌++◌, ◌∷◌, ◌+◌, List, ℕ, take, drop, ap, ◌∙◌, arith}
+use Rattle.std.proofs.Common.{◌+◌, take, drop, ap, ◌∙◌, arith}
 use Rattle.table_text.specs.Reading.{fields_of}
 use Rattle.table_text.proofs.Cuts.{cut_at, cut_front, uncut, rest_from, fields_of-before, fields_of-alone}
 use Rattle.table_text.proofs.fields.split_field.Goals as goal

@@ -1,4 +1,4 @@
-use Rattle.std.proofs.Common.{◌≡◌, ◌++◌, ◌∷◌, [], ◌+◌, ◌∙◌, take, drop, sym, append_assoc, arith}
+use Rattle.std.proofs.Common.{◌∷◌, [], ◌+◌, ◌∙◌, take, drop, sym, append_assoc, arith}
 use Rattle.table_text.proofs.Cuts.{cut_at, cut_front, uncut, rest_from, lines_of-none}
 use Rattle.table_text.proofs.lines.split_line.Goals as goal
 

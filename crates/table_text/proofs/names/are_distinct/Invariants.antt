@@ -1,4 +1,4 @@
-use Rattle.std.proofs.Common.{◌≡◌, ◌++◌, true, map, take, drop}
+use Rattle.std.proofs.Common.{◌≡◌, true, take}
 use Rattle.table_meaning.specs.Schemas.{are_distinct, column_names}
 use Rattle.table_text.proofs.names.are_distinct.Given as goal
 

@@ -1,4 +1,4 @@
-use Rattle.std.proofs.Common.{◌≡◌, ◌∙◌, sym, ap, Some}
+use Rattle.std.proofs.Common.{◌∙◌, sym, ap, Some}
 use Rattle.table_text.proofs.Quotes.{utf8_kept, other_dropped}
 use Rattle.table_text.proofs.quoted.as_text.Goals as goal
 

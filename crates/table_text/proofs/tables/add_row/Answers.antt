@@ -1,5 +1,4 @@
-use Rattle.std.proofs.Common.{◌≡◌, sym, ◌∙◌, ap, List, ◌+◌, ◌-◌, ◌++◌, ◌∷◌, [], Some, None, length, get_or, arith}
-use Rattle.table_meaning.specs.declared.cell.Cell.{Cell}
+use Rattle.std.proofs.Common.{◌≡◌, sym, ◌∙◌, ap, List, ◌+◌, ◌-◌, ◌++◌, ◌∷◌, [], length, arith}
 use Rattle.table_meaning.specs.declared.schema.Column.{Column}
 use Rattle.table_meaning.specs.Tables.{NamedTable}
 use Rattle.table_text.specs.Reading.{cells_of, fields_of}

@@ -1,4 +1,4 @@
-use Rattle.std.proofs.Common.{◌≡◌, ◌++◌, ◌+◌, List, ℕ, [], sym, ap, ◌∙◌, append_assoc, append-nil, refl, slice_get}
+use Rattle.std.proofs.Common.{◌++◌, ◌+◌, List, ℕ, [], sym, ap, ◌∙◌, append_assoc, append-nil, slice_get}
 use Rattle.std.specs.Prelude.{unwrap_or}
 use Rattle.table_meaning.specs.declared.cell.Cell.{Cell}
 use Rattle.table_meaning.specs.declared.cell.Cell.TheVariants.{Null}

@@ -1,4 +1,4 @@
-use Rattle.std.proofs.Common.{◌≡◌, ◌++◌, ◌∷◌, ◌+◌, List, ℕ, [], length, sym, ap, ◌∙◌, append_assoc, append-nil, refl}
+use Rattle.std.proofs.Common.{◌++◌, ◌∷◌, ◌+◌, List, ℕ, [], length, sym, ap, ◌∙◌, append_assoc, append-nil}
 use Rattle.table_meaning.specs.declared.cell.Cell.{Cell}
 use Rattle.table_meaning.specs.CellText.{ended}
 use Rattle.table_meaning.specs.Tables.{NamedTable, row_at, table_at}

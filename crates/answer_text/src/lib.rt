@@ -1,0 +1,6 @@
+//! Answers as text.
+#![tactic(auto)]
+
+mod cells;
+
+pub use cells::write_cells;

@@ -1,0 +1,4 @@
+pub mod Leaves
+pub mod Starts
+pub mod Exprs
+pub mod Lists

@@ -1,0 +1,11 @@
+pub mod Induction
+pub mod Pieces
+pub mod Blocks
+pub mod Exprs
+pub mod Scripts
+pub mod Cuts
+pub mod Fits
+pub mod Gives
+pub mod Reads
+pub mod Widening
+pub mod Spelled

@@ -1,0 +1,5 @@
+//! Tests of scripts as text.
+#![tactic(auto)]
+
+#[cfg(test)]
+mod scripts;

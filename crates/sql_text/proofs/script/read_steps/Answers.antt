@@ -1,0 +1,26 @@
+use Rattle.std.proofs.Common.{rules, arith}
+use Rattle.sql_meaning.specs.Grammar.{Steps}
+use Rattle.sql_cursor.specs.Outcomes.{Stops}
+use Rattle.sql_script_laws.specs.Steps as steps
+use Rattle.sql_text.proofs.script.read_steps.Goals as goal
+
+pub loop-after-init : goal.loop-after-init
+loop-after-init c =
+    let h = c.in_ok-rest.ensures.shorter in
+    let i = c.in_ok-step.ensures.shorter in
+    (steps.steps_made _ _ _ _ _ _ c.in_ok-rest.ensures.reads c.in_ok-step.ensures.reads c.new-steps.ensures c.in_ok-push.ensures.ok, omega (arith, h, i))
+
+pub returns-in_err-step-2-clause-refuses : goal.returns-in_err-step-2-clause-refuses
+returns-in_err-step-2-clause-refuses c =
+    let h : Stops Steps c.args.tokens.now c.in_err-step-2.field-0.0 = steps.steps_later_stops _ _ _ _ _ c.loop-after.invariant.0 c.in-Some.ensures.first c.in_err-step-2.ensures.refuses in
+    search rules
+
+pub loop-after-preserved : goal.loop-after-preserved
+loop-after-preserved c =
+    let h = c.in-Some.ensures.shorter in
+    let k = c.in_ok-step-2.ensures.shorter in
+    (steps.steps_added _ _ _ _ _ _ _ c.loop-after.invariant.0 c.in-Some.ensures.first c.in_ok-step-2.ensures.reads c.in_ok-push-2.ensures.ok, omega (arith, h, k, c.loop-after.invariant.1))
+
+pub returns-clause-reads : goal.returns-clause-reads
+returns-clause-reads c =
+    steps.steps_end _ _ _ c.loop-after.invariant.0 c.in_default.ensures.first

@@ -1,4 +1,3 @@
 pub mod Fills
 pub mod Equations
 pub mod Trees
-pub mod Ordered

@@ -1,13 +1,11 @@
 //! Terms compared as expressions compare them.
 
 ghost use Rattle.std.specs.Prelude.{◌≡◌};
-ghost use Rattle.std.specs.Ordering.{int_cmp};
-ghost use Rattle.rdf_meaning.specs.TermOrder.{option_cmp};
 ghost use Rattle.query_meaning.specs.Expressions.{effective, equal_terms, less_terms, value_cmp, compared_by_value, is_literal, kind_passes};
 
 use query_meaning::TermTest;
 use rdf_meaning::{Term, TermKind};
-use rdf_terms::{class_of, number_of};
+use rdf_terms::{class_of, number_of, order_of_values};
 use std::cmp::Ordering;
 
 /// The effective boolean value.
@@ -39,17 +37,6 @@ fn compared_by_value(a: &Term, b: &Term) -> bool
     class == class_of(b) && (class == 3 || class == 4 || class == 5)
 }
 
-fn order_numbers(a: Option<i128>, b: Option<i128>) -> Ordering
-    ensures { result ≡ option_cmp int_cmp a b }
-{
-    match (a, b) {
-        (None, None) => Ordering::Equal,
-        (None, Some(_)) => Ordering::Less,
-        (Some(_), None) => Ordering::Greater,
-        (Some(x), Some(y)) => x.cmp(&y),
-    }
-}
-
 // Strings by their bytes, numbers and booleans by their number.
 fn order_values(a: &Term, b: &Term) -> Ordering
     ensures { result ≡ value_cmp a.now b.now }
@@ -57,7 +44,7 @@ fn order_values(a: &Term, b: &Term) -> Ordering
     if class_of(a) == 5 {
         a.text.bytes().cmp(b.text.bytes())
     } else {
-        order_numbers(number_of(a), number_of(b))
+        order_of_values(number_of(a), number_of(b))
     }
 }
 

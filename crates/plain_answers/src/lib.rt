@@ -1,17 +1,15 @@
-//! Answers by the plain reading of what a query means, for small inputs: patterns are tried against each triple, and
+//! Solutions by the plain reading of what a query means, for small inputs: patterns are tried against each triple, and
 //! solutions are joined one by one.
 #![tactic(auto)]
 
 mod compare;
 mod joins;
 mod leaf;
-mod rows;
 mod solution;
 mod tree;
 mod truth;
 
 pub use leaf::leaf_solutions;
-pub use rows::{Row, sorted_rows};
 pub use solution::Solution;
 pub use tree::solutions;
 pub use truth::{truth_over, value_over};

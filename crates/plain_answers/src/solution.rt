@@ -26,7 +26,7 @@ impl Model for Solution {
     ghost invariant = { λ s. length s.places.items ≡ 64 };
 }
 
-pub(crate) fn copy_place(alloc: Global, place: Option<&Term>) -> Result<Option<Term>, AllocError>
+fn copy_place(alloc: Global, place: Option<&Term>) -> Result<Option<Term>, AllocError>
     ensures { IfOk result (λ copy. copy ≡ option_copied place.entry) }
 {
     match place {
@@ -72,6 +72,13 @@ impl Solution {
         ensures { option_copied result ≡ place_at self.now variable }
     {
         self.places[variable.number() as usize].as_ref()
+    }
+
+    /// A copy of the term of a variable, or none where it is unbound.
+    pub fn copy_term(&self, alloc: Global, variable: VarId) -> Result<Option<Term>, AllocError>
+        ensures { IfOk result (λ copy. copy ≡ place_at self.now variable) }
+    {
+        copy_place(alloc, self.term(variable))
     }
 
     /// Binds a variable to a term.

@@ -78,10 +78,7 @@ pub fn value_over(
     ensures { IfOk result (λ value. value ≡ value_over expression.now (place_at solution.now)) }
 {
     match expression {
-        ValueExpr::Var(variable) => match solution.term(*variable) {
-            Some(term) => Ok(Some(term.copy(alloc)?)),
-            None => Ok(None),
-        },
+        ValueExpr::Var(variable) => solution.copy_term(alloc, *variable),
         ValueExpr::Const(term) => Ok(Some(term.copy(alloc)?)),
         ValueExpr::Str(inner) => match value_over(alloc, inner.get(), solution)? {
             Some(term) => str_of(alloc, &term),

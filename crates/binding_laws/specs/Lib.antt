@@ -1,0 +1,3 @@
+pub mod StepColumns
+pub mod StepBinds
+pub mod TermBinds

@@ -1,0 +1,2 @@
+pub mod StepsBind
+pub mod Further

@@ -1,0 +1,4 @@
+pub mod SameTriples
+pub mod SetLaws
+pub mod TermSets
+pub mod Solutions

@@ -1,0 +1,2 @@
+pub mod LastColumns
+pub mod LastBinds

@@ -1,0 +1,7 @@
+//! The last SELECT of a compiled query binds. The law is the contract of a function that does nothing: proofs above cite
+//! the law, and the function shows that it is proved.
+#![tactic(auto)]
+
+mod last;
+
+pub use last::last_binds;

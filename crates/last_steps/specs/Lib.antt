@@ -1,0 +1,4 @@
+pub mod LastSelect
+pub mod PlaceOrder
+pub mod Decoded
+pub mod LastRows

@@ -1,0 +1,2 @@
+pub mod MatchColumns
+pub mod MatchBinds

@@ -1,0 +1,4 @@
+pub mod MatchRows
+pub mod MatchStep
+pub mod OptionalStep
+pub mod WholeOptional

@@ -1,0 +1,12 @@
+pub mod Cells
+pub mod Values
+pub mod ValueLaws
+pub mod Tables
+pub mod Sources
+pub mod Selects
+pub mod Rows
+pub mod Faults
+pub mod Scopes
+pub mod Checks
+pub mod CheckLaws
+pub mod Binding

@@ -9,6 +9,7 @@ use Rattle.std.proofs.lemmas.Map.Entries.{All-lookup}
 use Rattle.std.proofs.lemmas.Map.Keys.{IsDistinct-push}
 use Rattle.std.proofs.lemmas.List.Elements.{All-push}
 use Rattle.std.proofs.lemmas.List.{length_push}
+use Rattle.layout_meaning.specs.Side.{first_of}
 use Rattle.layout_meaning.specs.Columns.{ColumnsOf, hash_columns, hash_column, with_new, known_column, chosen, candidates_of}
 
 distinct-with_new : (xs : List ℕ) (x : ℕ) → IsDistinct nat_eq xs → IsDistinct nat_eq (with_new xs x)
@@ -58,6 +59,11 @@ pub record AreCandidates (k : ℕ) (columns : List ℕ) : Type 0 where
   pub some : 0 < length columns
   pub distinct : IsDistinct nat_eq columns
   pub below : All (λ c. c < k) columns
+
+-- the first of them is a column
+pub first-below : (k : ℕ) (columns : List ℕ) → AreCandidates k columns → first_of columns < k
+first-below k [] h = absurd (let a = h.some in omega arith)
+first-below k (c ∷ columns) h = h.below 0 0 (omega arith)
 
 known_below : (k : ℕ) (test : List ℕ → Bool) (es : List (List ℕ × ℕ)) (c : ℕ) → All (λ (p : List ℕ × ℕ). p.1 < k) es → lookup test es ≡ Some c → c < k
 known_below k test es c all e = subst (λ (o : Option ℕ). IfSome o (λ c. c < k)) e (All-lookup (λ c. c < k) test es all)

@@ -4,6 +4,7 @@ ghost use Rattle.std.specs.Prelude.{◌≡◌, ◌≢◌, ℕ, List, ◌≤◌, 
 ghost use Rattle.std.specs.List.{IsDistinct};
 ghost use Rattle.indexmap.specs.IndexMap.{get};
 ghost use Rattle.layout_meaning.specs.Columns.{candidates_of};
+ghost use Rattle.layout_meaning.specs.Side.{first_of};
 ghost use Rattle.pred_columns.specs.Refusal.{refusal_of, fault_from, known_of, same_text};
 
 use crate::hashes::hashed;
@@ -105,6 +106,7 @@ impl Columns {
         ensures low { 1 ≤ result }
         ensures high { result ≤ 32 }
         ensures some { (iri : List ℕ) → 0 < length (candidates_of self.now iri) }
+        ensures first { (iri : List ℕ) → first_of (candidates_of self.now iri) < self.now.count }
     {
         self.count
     }

@@ -7,6 +7,3 @@ mod hashes;
 
 pub use columns::{ColourPair, ColumnRefusal, Columns};
 pub use facts::{ConstCount, Counts, IdPair, LayoutFacts, QueryIds, Spilled};
-
-#[cfg(test)]
-mod tests;

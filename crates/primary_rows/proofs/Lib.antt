@@ -3,3 +3,4 @@ pub mod RowSteps
 pub mod Counting
 pub mod CountSteps
 pub mod Sides
+pub mod Viewed

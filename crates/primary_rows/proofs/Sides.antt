@@ -52,6 +52,7 @@ pub placed-side : (k : ColumnsOf) (columns : List ℕ) (x : Item) (s : SideState
     → (place_by o k.count columns x s).next ≤ 2 ^ 62 → more ≡ count + 1 → IsSide k (place_by o k.count columns x s) more
 placed-side k columns x s count more found o b side first e d h f ids m = record {
   some = side.some;
+  first = side.first;
   sound = place_by-sound k.count columns x s side.sound first o (sym e ∙ d) (ap (λ (o : Option Value). list_any (nat_eq x.value) (found_values s.lists o)) (sym d) ∙ sym h ∙ f);
   ids = ids;
   held = (let a = held_by_place k.count columns x s (λ (y : Item). 1) side.sound first o (sym e ∙ d) in let c = side.held in omega arith);
@@ -70,6 +71,7 @@ pub taken-side : (k : ColumnsOf) (x : Item) (s : SideState) (count less : ℕ) (
     → IsSide k (take_by o x s) less
 taken-side k x s count less found o b side e d h f m = record {
   some = side.some;
+  first = side.first;
   sound = take_by-sound k.count x s side.sound o (sym e ∙ d) (ap (λ (o : Option Value). list_any (nat_eq x.value) (found_values s.lists o)) (sym d) ∙ sym h ∙ f);
   ids = (let a = next-take_by o x s in let b = side.ids in omega arith);
   held = (let a = held_by_take k.count x s (λ (y : Item). 1) side.sound o (sym e ∙ d) (ap (λ (o : Option Value). list_any (nat_eq x.value) (found_values s.lists o)) (sym d) ∙ sym h ∙ f) in let c = side.held in omega arith);
@@ -84,9 +86,10 @@ counts-some k x s count found b side e h f =
 pub list_there : (k : ColumnsOf) (n : ℕ) (x : Item) (s : SideState) (count : ℕ) (found : Option Value) → IsSide k s count → found ≡ find x.pred (rows_of s.entities x.entity) → found ≡ Some (Many n) → IsSome (lookup (is_at (nat_cmp n)) s.lists)
 list_there k n x s count found side e d = let h = listed k.count n x s side.sound (sym e ∙ d) in rw h refl
 
-pub empty-side : (k : ColumnsOf) (next : ℕ) → next ≤ 2 ^ 62 → ((iri : List ℕ) → 0 < length (candidates_of k iri)) → IsSide k (record { entities = []; lists = []; next = next }) 0
-empty-side k next ids some = record {
+pub empty-side : (k : ColumnsOf) (next : ℕ) → next ≤ 2 ^ 62 → ((iri : List ℕ) → 0 < length (candidates_of k iri)) → ((iri : List ℕ) → first_of (candidates_of k iri) < k.count) → IsSide k (record { entities = []; lists = []; next = next }) 0
+empty-side k next ids some first = record {
   some = some;
+  first = first;
   sound = record { rows = tt; lists = tt; named = λ (n : ℕ). refl; apart = λ (n : ℕ). omega arith; below = λ (n : ℕ) (l : next ≤ n). refl };
   ids = ids;
   held = refl;

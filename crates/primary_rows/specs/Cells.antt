@@ -1,5 +1,5 @@
 -- What cells stand for.
-use Rattle.std.specs.Prelude.{ℕ, ℤ, pos, negsuc, ◌==◌, nat_le, nat_lt, Bool, true, if◌then◌else◌, Option, Some, None}
+use Rattle.std.specs.Prelude.{ℕ, ℤ, pos, negsuc, ◌==◌, nat_le, nat_lt, Bool, true, false, if◌then◌else◌, Option, Some, None}
 use Rattle.layout_meaning.specs.declared.value.Value.{Value}
 use Rattle.layout_meaning.specs.declared.value.Value.TheVariants.{One, Many}
 use Rattle.layout_meaning.specs.Side.{Pair}
@@ -18,9 +18,13 @@ abbrev pub fits_cell : ℤ → Bool
 fits_cell (pos n) = nat_le n 4294967295
 fits_cell (negsuc n) = true
 
--- an id has 32 bits
+abbrev pub is_zero : ℤ → Bool
+is_zero (pos n) = n == 0
+is_zero (negsuc n) = false
+
+-- an id has 32 bits, and a free pair is 0 on both cells
 abbrev pub fits : cells.Pair → Bool
-fits p = fits_cell p.value
+fits p = if p.pred == 0 then is_zero p.value else fits_cell p.value
 
 -- the id of a list has 64 bits
 abbrev pub is_small : Value → Bool

@@ -3,3 +3,4 @@ pub mod Places
 pub mod Counted
 pub mod Kept
 pub mod Answers
+pub mod Views

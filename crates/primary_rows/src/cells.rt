@@ -1,6 +1,6 @@
 //! Cells of rows.
 
-ghost use Rattle.std.specs.Prelude.{◌≡◌, ◌≤◌, ◌<◌, ◌^◌, ◌≤ℤ◌, pos, List, ℕ, length, IfOk, Option, None, Some, IsTrue, map, replicate};
+ghost use Rattle.std.specs.Prelude.{◌≡◌, ◌==◌, ◌≤◌, ◌<◌, ◌^◌, ◌≤ℤ◌, pos, List, ℕ, length, IfOk, Option, None, Some, IsTrue, map, replicate};
 ghost use Rattle.layout_meaning.specs.Side.{is_pred, is_none, find_in_row, write_in_row, all_free, free_at, put_at, first_free};
 ghost use Rattle.primary_rows.specs.Cells.{value_of, fits, fits_cell, pair_of, pair_with, is_small, is_small_if};
 
@@ -37,7 +37,8 @@ impl Model for Row {
 
 /// What stands in a pair that isn't free.
 fn value_in(pair: Pair) -> Value
-    requires { IsTrue (fits pair) }
+    requires filled { 1 ≤ pair.pred }
+    requires fits { IsTrue (fits pair) }
     ensures { result ≡ value_of pair.value }
 {
     if pair.value < 0 {
@@ -93,7 +94,8 @@ fn is_free(pair: Pair) -> bool
 
 fn has(pair: Pair, pred: u32) -> bool
     requires { 1 ≤ pred }
-    ensures { result ≡ is_pred pred (pair_of pair) }
+    ensures value { result ≡ is_pred pred (pair_of pair) }
+    ensures pred { result ≡ (pair.pred == pred) }
 {
     pair.pred == pred
 }

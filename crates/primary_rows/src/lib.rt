@@ -6,9 +6,8 @@ mod counts;
 mod rows;
 mod side;
 mod table;
+mod views;
 
 pub use cells::Pair;
 pub use side::{Side, SideRefusal, Took};
-
-#[cfg(test)]
-mod tests;
+pub use views::RowView;

@@ -1,17 +1,24 @@
 //! One side: its rows, its lists and its columns.
 
-ghost use Rattle.std.specs.Prelude.{◌≡◌, ◌≢◌, ◌≤◌, ◌<◌, ◌+◌, ◌^◌, ◌∷◌, ◌++◌, [], ℕ, List, length, nat_eq, true, false, IsTrue, IfOk, OnOk, OnErr, Some, None, Err};
+ghost use Rattle.std.specs.Prelude.{◌≡◌, ◌≢◌, ◌≤◌, ◌<◌, ◌+◌, ◌^◌, ◌∷◌, ◌++◌, [], ℕ, List, length, map, nat_eq, true, false, IsTrue, IfOk, OnOk, OnErr, Some, None, Err};
 ghost use Rattle.std.specs.List.{list_any};
 ghost use Rattle.layout_meaning.specs.declared.value.Value.TheVariants.{One};
 ghost use Rattle.std.specs.Set.{remove_key};
-ghost use Rattle.layout_meaning.specs.Side.{with_rows, rows_of, place_new, first_of, found_values, elements_of, only, placed, taken, is_held};
+ghost use Rattle.std.specs.List.Sorted.{IsStrictlySortedBy};
+ghost use Rattle.std.specs.Ordering.{nat_cmp};
+ghost use Rattle.std.specs.Map.{keys_of};
+ghost use Rattle.bags.specs.Bag.{total};
+ghost use Rattle.primary_rows.specs.Views.{seen_row};
+ghost use Rattle.layout_meaning.specs.Side.{items, with_rows, rows_of, place_new, first_of, found_values, elements_of, only, placed, taken, is_held};
 ghost use Rattle.layout_meaning.specs.Lists.{with_list, with_value, without_value, list_id};
 ghost use Rattle.layout_meaning.specs.Columns.{candidates_of};
-ghost use Rattle.layout_meaning.specs.Rows.{IsCountOf, is_spilled, row_total, placed_in, taken_from, KeepsToNames, name_in};
+ghost use Rattle.layout_meaning.specs.Sound.{IsSound};
+ghost use Rattle.layout_meaning.specs.Rows.{numbered_rows, IsCountOf, is_spilled, row_total, placed_in, taken_from, KeepsToNames, name_in};
 ghost use Rattle.value_lists.specs.Answers.{put_of, take_out_of, HasNumber};
 ghost use Rattle.primary_rows.specs.Answers.{took_of};
 
 use crate::table::Table;
+use crate::views::RowView;
 use layout_meaning::Value;
 use pred_columns::Columns;
 use rdf_meaning::Text;
@@ -69,7 +76,10 @@ impl Side {
     /// A side without rows, whose lists are to have the next ids of these, of which there are none.
     pub fn new(alloc: Global, columns: Columns, lists: Lists) -> Side
         requires { lists.lists ≡ [] }
-        ensures { result ≡ record { columns = columns; state = record { entities = []; lists = []; next = lists.next } } }
+        ensures side { result ≡ record { columns = columns; state = record { entities = []; lists = []; next = lists.next } } }
+        ensures sound { IsSound result.columns.count result.state }
+        ensures some { (iri : List ℕ) → 0 < length (candidates_of result.columns iri) }
+        ensures first { (iri : List ℕ) → first_of (candidates_of result.columns iri) < result.columns.count }
     {
         // What is known of columns is told by a call.
         let _count = columns.count();
@@ -96,6 +106,7 @@ impl Side {
         ensures room { OnOk result ((placed_in self.old iri.now (record { entity = entity; pred = pred; value = value })).state.next ≤ 2 ^ 62) }
         ensures full { result ≡ Err SideRefusal.ListsFull → (placed_in self.old iri.now (record { entity = entity; pred = pred; value = value })).state.next ≡ 2 ^ 62 + 1 }
         ensures err { OnErr result (self.new ≡ self.old) }
+        ensures new { OnErr result (is_held (record { entity = entity; pred = pred; value = value }) self.old.state ≡ false) }
         ensures keeps { OnOk result ((names : List (ℕ × List ℕ)) → KeepsToNames names self.old → name_in names pred ≡ Some iri.now → KeepsToNames names self.new) }
     {
         // What is known of columns is told by a call.
@@ -127,6 +138,7 @@ impl Side {
         ensures room { OnOk result ((placed_in self.old iri.now (record { entity = entity; pred = pred; value = value })).state.next ≤ 2 ^ 62) }
         ensures full { result ≡ Err SideRefusal.ListsFull → (placed_in self.old iri.now (record { entity = entity; pred = pred; value = value })).state.next ≡ 2 ^ 62 + 1 }
         ensures err { OnErr result (self.new ≡ self.old) }
+        ensures new { OnErr result (is_held (record { entity = entity; pred = pred; value = value }) self.old.state ≡ false) }
     {
         let found = self.table.find(entity, pred);
         if holds(&self.lists, found, value) {
@@ -218,17 +230,35 @@ impl Side {
         self.table.spilled_count()
     }
 
+    /// How many values all entities hold together, each element of a list counted.
+    pub fn item_count(&self) -> u64
+        ensures { result ≡ total (λ x. 1) (items self.now.state) }
+    {
+        self.held
+    }
+
+    /// The rows, by rising entity, then by their numbers.
+    pub fn rows(&self, alloc: Global) -> Result<Vec<RowView<'_>>, AllocError>
+        ensures rows { IfOk result (λ rows. map seen_row rows.items ≡ numbered_rows self.now.state.entities) }
+        ensures rising { IsStrictlySortedBy nat_cmp (keys_of self.now.state.entities) }
+        ensures sound { IsSound self.now.columns.count self.now.state }
+    {
+        self.table.views(alloc)
+    }
+
     /// The lists.
     pub fn lists(&self) -> &Lists
         ensures lists { result.now.lists ≡ self.now.state.lists }
         ensures next { result.now.next ≡ self.now.state.next }
+        ensures sound { IsSound self.now.columns.count self.now.state }
     {
         &self.lists
     }
 
-    /// The columns.
+    /// The columns. The first candidate of an IRI is one of them.
     pub fn columns(&self) -> &Columns
-        ensures { result.now ≡ self.now.columns }
+        ensures value { result.now ≡ self.now.columns }
+        ensures first { (iri : List ℕ) → first_of (candidates_of self.now.columns iri) < self.now.columns.count }
     {
         &self.columns
     }

@@ -1,13 +1,16 @@
 //! The rows of all entities, with what is counted of them.
 
-ghost use Rattle.std.specs.Prelude.{◌≡◌, ◌≤◌, ◌<◌, ◌+◌, ◌-◌, ◌==◌, ◌&&◌, ℕ, [], length, nat_eq, nat_lt, not, is_some, if◌then◌else◌, true, false, IsTrue, IsSome, IfSome, OnOk, OnErr, None, Some};
+ghost use Rattle.std.specs.Prelude.{◌≡◌, ◌≤◌, ◌<◌, ◌+◌, ◌-◌, ◌==◌, ◌&&◌, ◌++◌, ℕ, [], length, map, IfOk, nat_eq, nat_lt, not, is_some, if◌then◌else◌, true, false, IsTrue, IsSome, IfSome, OnOk, OnErr, None, Some};
 ghost use Rattle.std.specs.Ordering.{nat_cmp};
 ghost use Rattle.std.specs.BTreeMap.{get, is_at, insert_entry};
 ghost use Rattle.std.specs.Map.{lookup, set_value, remove_entry};
 ghost use Rattle.bags.specs.Bag.{total};
 ghost use Rattle.layout_meaning.specs.Side.{find, find_in_row, write, place_new, first_of, rows_of, with_rows};
 ghost use Rattle.layout_meaning.specs.Sound.{one_if, has_pred};
-ghost use Rattle.layout_meaning.specs.Rows.{is_spilled, row_total, IsCountOf};
+ghost use Rattle.std.specs.List.Sorted.{IsStrictlySortedBy};
+ghost use Rattle.std.specs.Map.{keys_of};
+ghost use Rattle.primary_rows.specs.Views.{seen_row};
+ghost use Rattle.layout_meaning.specs.Rows.{numbered_rows, rows_from, is_spilled, row_total, IsCountOf};
 ghost use Rattle.primary_rows.specs.Cells.{is_small, is_small_if, pair_of, pair_with};
 ghost use Rattle.primary_rows.specs.Places.{opens, goes_behind, first_row, drops, gone};
 ghost use Rattle.primary_rows.specs.Counted.{count_in};
@@ -15,6 +18,7 @@ ghost use Rattle.primary_rows.specs.Counted.{count_in};
 use crate::cells::Pair;
 use crate::counts::SpillCounts;
 use crate::rows::EntityRows;
+use crate::views::RowView;
 use layout_meaning::Value;
 use std::alloc::{AllocError, Global};
 use std::collections::BTreeMap;
@@ -66,6 +70,18 @@ impl Table {
         ensures { IsCountOf (λ p. is_spilled p self.now) result }
     {
         self.spilled.len()
+    }
+
+    /// The rows, by rising entity, then by their numbers.
+    pub(crate) fn views(&self, alloc: Global) -> Result<Vec<RowView<'_>>, AllocError>
+        ensures rows { IfOk result (λ rows. map seen_row rows.items ≡ numbered_rows self.now) }
+        ensures rising { IsStrictlySortedBy nat_cmp (keys_of self.now) }
+    {
+        let mut views = Vec::new(alloc);
+        for (entity, rows) in &self.entities {
+            push_views(&mut views, *entity, rows)?;
+        }
+        Ok(views)
     }
 
     /// What stands under a predicate of an entity.
@@ -148,6 +164,25 @@ impl Table {
         self.rows = fewer_rows(self.rows, dropped);
         drop_empty(&mut self.entities, entity);
     }
+}
+
+/// Puts the rows of an entity behind others.
+fn push_views<'a>(
+    views: &mut Vec<RowView<'a>>,
+    entity: u32,
+    rows: &'a EntityRows,
+) -> Result<(), AllocError>
+    ensures { OnOk result (map seen_row views.new.items ≡ map seen_row views.old.items ++ rows_from entity 0 rows.now) }
+{
+    let rows = rows.as_slice();
+    for number in 0..rows.len() {
+        views.push(RowView {
+            entity,
+            spill: number as u32,
+            cells: rows[number].cells(),
+        })?;
+    }
+    Ok(())
 }
 
 /// One more row, if there is to be one; none where the count is at its end.

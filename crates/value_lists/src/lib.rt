@@ -5,6 +5,3 @@ mod lists;
 mod values;
 
 pub use lists::{ListRefusal, Lists, Put, TakeOut};
-
-#[cfg(test)]
-mod tests;

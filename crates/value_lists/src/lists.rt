@@ -7,7 +7,7 @@ ghost use Rattle.std.specs.BTreeMap.{get, is_at, insert_entry};
 ghost use Rattle.std.specs.Map.{lookup, set_value};
 ghost use Rattle.std.specs.Set.{remove_key};
 ghost use Rattle.layout_meaning.specs.Side.{elements_of, only, left_lists};
-ghost use Rattle.layout_meaning.specs.Lists.{list_id, number_of, with_list, with_value, without_value};
+ghost use Rattle.layout_meaning.specs.Lists.{AreLists, list_id, number_of, with_list, with_value, without_value};
 ghost use Rattle.value_lists.specs.Answers.{put_of, take_out_of, HasList, HasNumber};
 
 use crate::values::Values;
@@ -189,7 +189,8 @@ impl Lists {
 
     /// How many lists there are.
     pub fn count(&self) -> u64
-        ensures { result ≡ length self.now.lists }
+        ensures count { result ≡ length self.now.lists }
+        ensures lists { AreLists self.now }
     {
         self.lists.len() as u64
     }

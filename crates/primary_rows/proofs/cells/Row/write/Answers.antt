@@ -11,5 +11,5 @@ pub returns-then-has : goal.returns-then-has
 returns-then-has c =
     let within : c.loop-at.at < length c.loop-at.self-inside.pairs.items = omega arith in
     written-cells c.args.pred (pair_with c.args.pred c.args.value) c.loop-at.self-inside.pairs.items c.loop-at.at c.index.result.now c.pair_with.result within (sym c.index.ensures)
-    (sym c.has.ensures ∙ c.if-has.true) c.pair_with.ensures.pair c.loop-at.invariant.rest
+    (sym c.has.ensures.value ∙ c.if-has.true) c.pair_with.ensures.pair c.loop-at.invariant.rest
     ∙ ap (write_in_row c.args.pred (pair_with c.args.pred c.args.value)) c.loop-at.invariant.same

@@ -1,7 +1,7 @@
 //! The last id, and a list that grows long and shrinks again.
 
-use super::{ListRefusal, Lists, Put, TakeOut};
 use std::test::Fail;
+use value_lists::{ListRefusal, Lists, Put, TakeOut};
 
 #[test]
 fn last_id_is_given_out_once(rt: HostRuntime) -> Result<(), Fail> {

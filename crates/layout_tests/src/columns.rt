@@ -1,6 +1,6 @@
 //! Columns by hashes computed apart, and the refusals.
 
-use super::{ColourPair, ColumnRefusal, Columns};
+use pred_columns::{ColourPair, ColumnRefusal, Columns};
 use rdf_meaning::{Text, text_of};
 use std::alloc::Global;
 use std::test::Fail;

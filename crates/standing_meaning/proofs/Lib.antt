@@ -1,0 +1,10 @@
+pub mod Each
+pub mod Numbered
+pub mod Known
+pub mod Once
+pub mod Terms
+pub mod Stands
+pub mod Steps
+pub mod Growth
+pub mod Present
+pub mod Changed

@@ -1,0 +1,2 @@
+//! Table statistics and their text.
+#![tactic(auto)]

@@ -1,0 +1,5 @@
+pub mod Prefixes
+pub mod Lexemes
+pub mod Limits
+pub mod Features
+pub mod Queries

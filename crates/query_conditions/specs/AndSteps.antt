@@ -1,0 +1,114 @@
+-- The steps of the reader of members with `&&` between them.
+use Rattle.std.proofs.Common.{Bool, true, false, IsTrue, List, [], ◌∷◌, ◌++◌, ◌≡◌, ◌≤◌, length, map, ℕ, refl, ap, subst, sym, arith, append_assoc, ◌∙◌}
+use Rattle.std.proofs.lemmas.List.{append-nil}
+use Rattle.grammar_meaning.specs.Grammar.{Form, nothing, one, call, ◌⨾◌, ◌∣◌, many, maybe, Node, Nil, Leaf, Pair, Made, Grammar, Reads, Front, front_empty}
+use Rattle.grammar_meaning.specs.Outcome.{Begins, Most, Lags, Got, Broke, Lookahead, NotBegun, fits, implies, or, and, first, nullable}
+use Rattle.grammar_meaning.specs.Laws.{reads_le}
+use Rattle.grammar_meaning.specs.Exact.{got_one, got_nothing, got_call, got_then, got_left, got_right, got_many, broke_call, broke_none, broke_first, broke_rest, broke_left, broke_right, broke_many, lags_none, lags_most, lags_near, most_lags, lags_wide, most_wide, lags_nothing, most_or, lags_or, most_call, lags_call, most_then, lags_first, lags_rest}
+use Rattle.grammar_meaning.specs.Parts.{got_wide, broke_wide, lags_aside, got_left_only, got_right_only, broke_left_only, broke_right_only, got_some, broke_some, got_skip, got_more, got_end, broke_now, broke_later, Along, along_step, along_end, along_stop}
+use Rattle.rdf_meaning.specs.Terms.{RdfTerm, iri as iri_term, typed, tagged}
+use Rattle.query_meaning.specs.declared.pattern.Slot.{Slot}
+use Rattle.query_meaning.specs.declared.pattern.Slot.TheVariants as slot
+use Rattle.query_meaning.specs.declared.pattern.Pattern.{Pattern}
+use Rattle.fragment_grammar.specs.declared.lexeme.Lexeme.{Lexeme}
+use Rattle.fragment_grammar.specs.declared.lexeme.Lexeme.TheVariants as l
+use Rattle.fragment_grammar.specs.declared.lexeme.Sign.{Sign}
+use Rattle.fragment_grammar.specs.declared.lexeme.Sign.TheVariants as s
+use Rattle.fragment_grammar.specs.Grammar.{Kind, sign, variable, iri, named, prefix_name, string, tag, count, literal, function, test, compare, direction, kind, is, among, mark, word, Symbol, rule, grammar, Tree, Read}
+use Rattle.fragment_grammar.specs.Table.{look, begins, after}
+use Rattle.query_cursor.specs.Outcomes.{Gets, gets, got, Breaks, breaks, broke, Stops, stops_memory, stops_at, handed, IsNot, NoneOf, SomeOf, or_false, not_first, not_kind, not_then, not_again, not_begun, apart, ahead, token}
+use Rattle.query_cursor.specs.declared.refusal.Refusal.{Refusal}
+use Rattle.query_cursor.specs.declared.refusal.Refusal.TheVariants.{NoMemory, Syntax}
+use Rattle.query_meaning.specs.declared.expression.CompareOp.{CompareOp}
+use Rattle.query_meaning.specs.declared.expression.TermTest.{TermTest}
+use Rattle.query_meaning.specs.declared.expression.ValueExpr.{ValueExpr}
+use Rattle.query_meaning.specs.declared.expression.ValueExpr.TheVariants as v
+use Rattle.query_meaning.specs.declared.expression.TruthExpr.{TruthExpr}
+use Rattle.query_meaning.specs.declared.expression.TruthExpr.TheVariants as t
+use Rattle.fragment_grammar.specs.Grammar.{Value_, Test_, Fun_, Operator_, Compared_, Prim_, Atom_, Rel_, And_, Truth_, Cond_, a_value, a_truth, a_tail, Tail, with_tail, truth_in, truths_behind, tree_of}
+use Rattle.query_conditions.specs.declared.operand.Operand.{Operand}
+use Rattle.query_conditions.specs.declared.operand.Operand.TheVariants as op
+use Rattle.query_values.specs.ValueSteps.{opened, closed, not_closed, bracketed}
+use Rattle.query_conditions.specs.Operands.{as_truth, OneValue, OneTruth, OneBreak, Stuck, stuck, ItemValue, ItemStuck, atom_stuck, value_stuck, One, one_value, one_truth, Item, item_is_value, item_is_truth, StopsOne, one_memory, one_at, StopsItem, item_memory, item_at, handed_one, handed_item}
+
+-- a member of a chain, as a truth
+pub data Member : List Lexeme → TruthExpr → List Lexeme → Type 0 where
+  member : {ts us : List Lexeme} (x : Tree) → Gets Rel_ ts x us → Most grammar (among (after Rel_)) (call Value_) ts (Made x) us → Member ts (truth_in (Made x)) us
+
+member_of : (ts us : List Lexeme) (o : Operand) → One Rel_ ts o us → Member ts (as_truth o) us
+member_of ts us o (one_value {x = x} a) = member (a_value x) a.all (most_wide look refl (got a.value).most)
+member_of ts us o (one_truth {x = x} a) = member (a_truth x) a.all (lags_most a.value)
+
+abbrev pub next_one : Form Symbol Kind
+next_one = word s.And ⨾ call Rel_
+
+-- a loop over the members behind the first
+pub data ChainAlong (ts : List Lexeme) (xs : List TruthExpr) (us : List Lexeme) : Type 0 where
+  chain_along : Along grammar (among (after And_)) next_one (among (after And_)) (call And_) ts (λ m. Made (a_truth (t.All (xs ++ truths_behind m)))) us
+      → Lags grammar (among (after And_)) (call Value_) ts us → ChainAlong ts xs us
+
+one_more : (ts us : List Lexeme) (x : Tree) → Gets Rel_ ts x us → Got grammar (among (after Rel_)) next_one (l.Sign s.And ∷ ts) (Pair (Leaf (l.Sign s.And)) (Made x)) us
+one_more ts us x a = got_then look refl (token [] (sign s.And) (l.Sign s.And) ts refl) (got a)
+
+broke_more : (ts us : List Lexeme) → Breaks Rel_ ts us → Broke grammar (among (after Rel_)) next_one (l.Sign s.And ∷ ts) us
+broke_more ts us a = broke_rest look refl (token [] (sign s.And) (l.Sign s.And) ts refl) (broke a)
+
+chain_single : (ts us : List Lexeme) (x : Tree) → Gets Rel_ ts x us → IsNot (sign s.And) us → Gets And_ ts x us
+chain_single ts us x a h = gets (got_call And_ (got_then look refl (got a) (got_end look (among (after And_)) refl (not_again (sign s.And) (call Rel_) us h))))
+
+pub chain_one : (ts us : List Lexeme) (o : Operand) → One Rel_ ts o us → IsNot (sign s.And) us → One And_ ts o us
+chain_one ts us o (one_value {x = x} a) h = one_value (record { all = chain_single ts us (a_value x) a.all h; value = a.value })
+chain_one ts us o (one_truth {x = x} a) h = one_truth (record { all = chain_single ts us (a_truth x) a.all h; value = lags_wide look refl a.value })
+
+starts : (ts us vs : List Lexeme) (x y : TruthExpr) → Member ts x (l.Sign s.And ∷ us) → Member us y vs → ChainAlong ts (x ∷ y ∷ []) vs
+starts ts us vs x y (member a f g) (member b i j) =
+    let k = reads_le grammar (call Rel_) us vs (Made b) (got i).reads in
+    chain_along (record {
+      more = λ m ws r. got_call And_ (got_then look refl (got f) (got_more look refl refl (one_more us vs b i) r));
+      stop = λ ws r. broke_call And_ (broke_rest look refl (got f) (broke_later look refl refl (one_more us vs b i) r));
+    })
+    (lags_near (most_lags (most_wide look refl g) refl) (omega arith))
+
+starts_stuck : (ts us vs : List Lexeme) (x : TruthExpr) → Member ts x (l.Sign s.And ∷ us) → Stuck Rel_ us vs → Stuck And_ ts vs
+starts_stuck ts us vs x (member a f g) (stuck b) =
+    let k = b.value.within us front_empty in
+    stuck (record {
+      all = breaks (broke_call And_ (broke_rest look refl (got f) (broke_now look refl refl (broke_more us vs b.all))));
+      value = lags_near (most_lags (most_wide look refl g) refl) (omega arith);
+    })
+
+goes_on : (ts us vs : List Lexeme) (xs : List TruthExpr) (y : TruthExpr) → ChainAlong ts xs (l.Sign s.And ∷ us) → Member us y vs → ChainAlong ts (xs ++ (y ∷ [])) vs
+goes_on ts us vs xs y (chain_along a w) (member b i j) =
+    let k = reads_le grammar (call Rel_) us vs (Made b) (got i).reads in
+    chain_along (along_step look (λ m. Made (a_truth (t.All ((xs ++ (truth_in (Made b) ∷ [])) ++ truths_behind m)))) refl
+    (λ m. ap (λ z. Made (a_truth (t.All z))) (sym (append_assoc xs (truth_in (Made b) ∷ []) (truths_behind m)))) refl a (one_more us vs b i))
+    (lags_near w (omega arith))
+
+stops : (ts us vs : List Lexeme) (xs : List TruthExpr) → ChainAlong ts xs (l.Sign s.And ∷ us) → Stuck Rel_ us vs → Stuck And_ ts vs
+stops ts us vs xs (chain_along a w) (stuck b) =
+    let k = b.value.within us front_empty in
+    stuck (record { all = breaks (along_stop look refl refl a (broke_more us vs b.all)); value = lags_near w (omega arith) })
+
+pub chain_end : (ts us : List Lexeme) (xs : List TruthExpr) → ChainAlong ts xs us → IsNot (sign s.And) us → One And_ ts (op.Truth (t.All xs)) us
+chain_end ts us xs (chain_along a w) h = one_truth (record {
+  all = gets (subst (λ z. Got grammar (among (after And_)) (call And_) ts (Made (a_truth (t.All z))) us) (append-nil xs) (along_end look refl (not_again (sign s.And) (call Rel_) us h) a));
+  value = w;
+})
+
+pub chain_first_stops : (ts : List Lexeme) (r : Refusal) → StopsOne Rel_ ts r → StopsOne And_ ts r
+chain_first_stops ts r one_memory = one_memory
+chain_first_stops ts r (one_at ws (stuck a)) = one_at ws (stuck (record { all = breaks (broke_call And_ (broke_first look refl (broke a.all))); value = lags_wide look refl a.value }))
+
+pub chain_second_stops : (ts us : List Lexeme) (o : Operand) (r : Refusal) → One Rel_ ts o (l.Sign s.And ∷ us) → StopsOne Rel_ us r → StopsOne And_ ts r
+chain_second_stops ts us o r a b = handed_one (λ ws c. starts_stuck ts us ws (as_truth o) (member_of ts (l.Sign s.And ∷ us) o a) c) b
+
+pub chain_later_stops : (ts us : List Lexeme) (xs : List TruthExpr) (r : Refusal) → ChainAlong ts xs (l.Sign s.And ∷ us) → StopsOne Rel_ us r → StopsOne And_ ts r
+chain_later_stops ts us xs r a b = handed_one (λ ws c. stops ts us ws xs a c) b
+
+pub chain_start : (ts us vs : List Lexeme) (o p : Operand) → One Rel_ ts o (l.Sign s.And ∷ us) → One Rel_ us p vs → ChainAlong ts (as_truth o ∷ as_truth p ∷ []) vs
+chain_start ts us vs o p a b = starts ts us vs (as_truth o) (as_truth p) (member_of ts (l.Sign s.And ∷ us) o a) (member_of us vs p b)
+
+pub chain_step : (ts us vs : List Lexeme) (xs : List TruthExpr) (o : Operand) → ChainAlong ts xs (l.Sign s.And ∷ us) → One Rel_ us o vs → ChainAlong ts (xs ++ (as_truth o ∷ [])) vs
+chain_step ts us vs xs o a b = goes_on ts us vs xs (as_truth o) a (member_of us vs o b)
+
+pub ruleset chain_paths = (one_memory, chain_one, chain_start, chain_step, chain_end, chain_first_stops, chain_second_stops, chain_later_stops)

@@ -1,0 +1,2 @@
+pub mod TermSteps
+pub mod TripleSteps

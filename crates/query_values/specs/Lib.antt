@@ -1,0 +1,4 @@
+pub mod ValueSteps
+pub mod ListSteps
+pub mod OperatorSteps
+pub mod TestSteps

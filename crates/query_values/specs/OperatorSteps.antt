@@ -1,0 +1,72 @@
+-- The steps of the readers of operators.
+use Rattle.std.proofs.Common.{Bool, true, false, IsTrue, List, [], ◌∷◌, ◌++◌, ◌≡◌, ◌≤◌, length, map, ℕ, refl, ap, subst, sym, arith, append_assoc, ◌∙◌}
+use Rattle.std.proofs.lemmas.List.{append-nil}
+use Rattle.grammar_meaning.specs.Grammar.{Form, nothing, one, call, ◌⨾◌, ◌∣◌, many, maybe, Node, Nil, Leaf, Pair, Made, Grammar, Reads, Front, front_empty}
+use Rattle.grammar_meaning.specs.Outcome.{Begins, Most, Lags, Got, Broke, Lookahead, NotBegun, fits, implies, or, and, first, nullable}
+use Rattle.grammar_meaning.specs.Laws.{reads_le}
+use Rattle.grammar_meaning.specs.Exact.{got_one, got_nothing, got_call, got_then, got_left, got_right, got_many, broke_call, broke_none, broke_first, broke_rest, broke_left, broke_right, broke_many, lags_none, lags_most, lags_near, most_lags, lags_wide, most_wide, lags_nothing, most_or, lags_or, most_call, lags_call, most_then, lags_first, lags_rest}
+use Rattle.grammar_meaning.specs.Parts.{got_wide, broke_wide, lags_aside, got_left_only, got_right_only, broke_left_only, broke_right_only, got_some, broke_some, got_skip, got_more, got_end, broke_now, broke_later, Along, along_step, along_end, along_stop}
+use Rattle.rdf_meaning.specs.Terms.{RdfTerm, iri as iri_term, typed, tagged}
+use Rattle.query_meaning.specs.declared.pattern.Slot.{Slot}
+use Rattle.query_meaning.specs.declared.pattern.Slot.TheVariants as slot
+use Rattle.query_meaning.specs.declared.pattern.Pattern.{Pattern}
+use Rattle.fragment_grammar.specs.declared.lexeme.Lexeme.{Lexeme}
+use Rattle.fragment_grammar.specs.declared.lexeme.Lexeme.TheVariants as l
+use Rattle.fragment_grammar.specs.declared.lexeme.Sign.{Sign}
+use Rattle.fragment_grammar.specs.declared.lexeme.Sign.TheVariants as s
+use Rattle.fragment_grammar.specs.Grammar.{Kind, sign, variable, iri, named, prefix_name, string, tag, count, literal, function, test, compare, direction, kind, is, among, mark, word, Symbol, rule, grammar, Tree, Read}
+use Rattle.fragment_grammar.specs.Table.{look, begins, after}
+use Rattle.query_cursor.specs.Outcomes.{Gets, gets, got, Breaks, breaks, broke, Stops, stops_memory, stops_at, handed, IsNot, NoneOf, SomeOf, or_false, not_first, not_kind, not_then, not_again, not_begun, apart, ahead, token}
+use Rattle.query_cursor.specs.declared.refusal.Refusal.{Refusal}
+use Rattle.query_cursor.specs.declared.refusal.Refusal.TheVariants.{NoMemory, Syntax}
+use Rattle.query_meaning.specs.declared.expression.CompareOp.{CompareOp}
+use Rattle.query_meaning.specs.declared.expression.TermTest.{TermTest}
+use Rattle.query_meaning.specs.declared.expression.ValueExpr.{ValueExpr}
+use Rattle.query_meaning.specs.declared.expression.ValueExpr.TheVariants as v
+use Rattle.query_meaning.specs.declared.expression.TruthExpr.{TruthExpr}
+use Rattle.query_meaning.specs.declared.expression.TruthExpr.TheVariants as t
+use Rattle.fragment_grammar.specs.Grammar.{Value_, Values_, Operator_, a_value, values, a_tail, Tail, compares, one_of, none_of, with_tail}
+
+-- an operator and its right side, with the value on its left
+pub data OperatorGot (x : ValueExpr) (ts : List Lexeme) : TruthExpr → List Lexeme → Type 0 where
+  operator_got : {us : List Lexeme} (y : Tail) → Gets Operator_ ts (a_tail y) us → OperatorGot x ts (with_tail x y) us
+
+abbrev pub in_values : Form Symbol Kind
+in_values = word s.In ⨾ call Values_
+
+abbrev pub not_in_values : Form Symbol Kind
+not_in_values = word s.Not ⨾ word s.In ⨾ call Values_
+
+pub operator_compare : (o : CompareOp) (us vs : List Lexeme) (x y : ValueExpr) → Gets Value_ us (a_value y) vs → OperatorGot x (l.Compare o ∷ us) (t.Compare o x y) vs
+operator_compare o us vs x y a = operator_got (compares o y) (gets (got_call Operator_ (got_left_only look refl refl (got_then look refl (token [] compare (l.Compare o) us refl) (got_wide look refl (got a))))))
+
+pub operator_compare_stops : (o : CompareOp) (us : List Lexeme) (r : Refusal) → Stops Value_ us r → Stops Operator_ (l.Compare o ∷ us) r
+operator_compare_stops o us r a = handed (λ ws b. breaks (broke_call Operator_ (broke_left_only look refl refl (broke_rest look refl (token [] compare (l.Compare o) us refl) (broke_wide look refl (broke b)))))) a
+
+pub operator_in : (us vs : List Lexeme) (x : ValueExpr) (ys : List ValueExpr) → Gets Values_ us (values ys) vs → OperatorGot x (l.Sign s.In ∷ us) (t.OneOf x ys) vs
+operator_in us vs x ys a = operator_got (one_of ys) (gets (got_call Operator_ (got_right_only look refl refl (got_left_only look refl refl (got_then look refl (token [] (sign s.In) (l.Sign s.In) us refl) (got_wide look refl (got a)))))))
+
+pub operator_in_stops : (us : List Lexeme) (r : Refusal) → Stops Values_ us r → Stops Operator_ (l.Sign s.In ∷ us) r
+operator_in_stops us r a = handed (λ ws b. breaks (broke_call Operator_ (broke_right_only look refl refl (broke_left_only look refl refl (broke_rest look refl (token [] (sign s.In) (l.Sign s.In) us refl) (broke_wide look refl (broke b))))))) a
+
+pub operator_none : (ts : List Lexeme) → IsNot compare ts → IsNot (sign s.In) ts → IsNot (sign s.Not) ts → Stops Operator_ ts (Syntax (length ts))
+operator_none ts h i j =
+    stops_at ts (breaks (broke_call Operator_ (broke_right_only look refl (not_then compare (call Value_) ts h) (broke_right_only look refl (not_then (sign s.In) (call Values_) ts i)
+    (broke_none look (among (after Operator_)) refl (not_then (sign s.Not) in_values ts j))))))
+
+pub ruleset operator_paths = (stops_memory, operator_compare, operator_compare_stops, operator_in, operator_in_stops, operator_none)
+
+pub operator_not_in : (us vs : List Lexeme) (x : ValueExpr) (ys : List ValueExpr) → Gets Values_ us (values ys) vs → OperatorGot x (l.Sign s.Not ∷ l.Sign s.In ∷ us) (t.Not (t.OneOf x ys)) vs
+operator_not_in us vs x ys a =
+    operator_got (none_of ys) (gets (got_call Operator_ (got_right_only look refl refl (got_right_only look refl refl (got_then look refl (token [] (sign s.Not) (l.Sign s.Not) (l.Sign s.In ∷ us) refl)
+    (got_then look refl (token [] (sign s.In) (l.Sign s.In) us refl) (got_wide look refl (got a))))))))
+
+pub operator_not_in_stops : (us : List Lexeme) (r : Refusal) → Stops Values_ us r → Stops Operator_ (l.Sign s.Not ∷ l.Sign s.In ∷ us) r
+operator_not_in_stops us r a = handed (λ ws b. breaks (broke_call Operator_ (broke_right_only look refl refl (broke_right_only look refl refl (broke_rest look refl (token [] (sign s.Not) (l.Sign s.Not) (l.Sign s.In ∷ us) refl)
+    (broke_rest look refl (token [] (sign s.In) (l.Sign s.In) us refl) (broke_wide look refl (broke b)))))))) a
+
+pub operator_not_other : (us : List Lexeme) → IsNot (sign s.In) us → Stops Operator_ (l.Sign s.Not ∷ us) (Syntax (length us))
+operator_not_other us h = stops_at us (breaks (broke_call Operator_ (broke_right_only look refl refl (broke_right_only look refl refl (broke_rest look refl (token [] (sign s.Not) (l.Sign s.Not) us refl)
+    (broke_none look (among (after Operator_)) refl (not_then (sign s.In) (call Values_) us h)))))))
+
+pub ruleset not_paths = (stops_memory, operator_not_in, operator_not_in_stops, operator_not_other)

@@ -7,13 +7,8 @@ ghost use Rattle.rdf_meaning.specs.Characters.{is_letter, is_digit};
 ghost use Rattle.table_meaning.specs.Names.{is_name, is_name_byte, begins_with_letter, is_capital_word, is_among, body_words, source_words, order_words, value_words, test_words, case_words};
 ghost use Rattle.table_meaning.specs.Ints.{int_of, is_int_form, is_digits, begins_with_zero};
 
+use rdf_terms::{are_digits, is_digit};
 use std::str;
-
-fn is_digit(byte: u8) -> bool
-    ensures { result ≡ is_digit byte }
-{
-    b'0' <= byte && byte <= b'9'
-}
 
 fn is_letter(byte: u8) -> bool
     ensures { result ≡ is_letter byte }
@@ -135,12 +130,6 @@ pub fn is_name(text: &[u8]) -> bool
     ensures { result ≡ is_name text.now }
 {
     begins_with_letter(text) && are_name_bytes(text) && text.len() <= 64 && !is_capital_word(text)
-}
-
-fn are_digits(text: &[u8]) -> bool
-    ensures { result ≡ list_all is_digit text.now }
-{
-    text.iter().all(|byte| is_digit(*byte))
 }
 
 fn begins_with_zero(digits: &[u8]) -> bool

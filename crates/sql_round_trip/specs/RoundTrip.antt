@@ -2,7 +2,6 @@
 use Rattle.std.specs.Prelude.{List, [], ◌≡◌, ◌⊎◌, IsTrue, Result, Ok, Err, IfOk, IfErr}
 use Rattle.std.proofs.Common.{ap, refl, subst, sym, inl, inr}
 use Rattle.grammar_meaning.specs.Grammar.{call, Made, Reads}
-use Rattle.grammar_paths.specs.Ends.{ends_all, front_ends, reads_shorter}
 use Rattle.sql_meaning.specs.Canon.{canon}
 use Rattle.sql_meaning.specs.Grammar.{WholeScript, a_script, full, shallow}
 use Rattle.sql_meaning.specs.Scripts.{is_writable}
@@ -11,14 +10,11 @@ use Rattle.sql_meaning.specs.declared.token.Placed.{Placed}
 use Rattle.sql_meaning.specs.declared.script.Script.{Script}
 use Rattle.sql_cut_laws.specs.OneCut.{texts_have_one_cut}
 use Rattle.sql_cut_laws.specs.Outcomes.{spelled_texts_dont_break}
+use Rattle.sql_reading_laws.specs.Depths.{read_tokens_are_not_deep}
 use Rattle.sql_spelling.specs.Spelled.{spelled_within, writable_scripts_are_spelled}
 use Rattle.sql_text.specs.Refuses.{Refuses, no_memory, is_deep, breaks_at}
 use Rattle.sql_text.specs.declared.refusal.SqlRefusal.{SqlRefusal}
 use Rattle.sql_text.specs.declared.refusal.SqlRefusal.TheVariants.{NoMemory}
-
--- where tokens read as a script of few levels none of them is deep: all that begin a script begin one of few levels
-not_deep : (s : Script) (ts : List Placed) → Reads shallow (call WholeScript) ts (Made (a_script s)) [] → IsDeep ts → ⊥
-not_deep s ts r d = d.passes (reads_shorter shallow (call WholeScript) ts [] d.behind (Made (a_script s)) r (ends_all d.behind) (front_ends full (call WholeScript) ts d.behind d.begins))
 
 abbrev pub CanonicalSpellingsAreNotDeep : Type 0
 CanonicalSpellingsAreNotDeep = (s : Script) → IsTrue (is_writable s) → HasDeepToken (canon s) → ⊥
@@ -26,7 +22,7 @@ CanonicalSpellingsAreNotDeep = (s : Script) → IsTrue (is_writable s) → HasDe
 pub canonical_spellings_are_not_deep : CanonicalSpellingsAreNotDeep
 canonical_spellings_are_not_deep s h k =
     let w = spelled_within s h in
-    not_deep s w.tokens w.reads (subst IsDeep (texts_have_one_cut (canon s) k.tokens w.tokens k.cut w.cut) k.deep)
+    read_tokens_are_not_deep w.tokens s w.reads (subst IsDeep (texts_have_one_cut (canon s) k.tokens w.tokens k.cut w.cut) k.deep)
 
 abbrev pub CanonicalSpellingsSpellTheirScriptOnly : Type 0
 CanonicalSpellingsSpellTheirScriptOnly = (s x : Script) → IsTrue (is_writable s) → SpellsOnly (canon s) x → x ≡ s

@@ -1,4 +1,4 @@
-//! The text of scripts, read.
+//! The text of scripts, read and written.
 #![tactic(auto)]
 
 mod read;
@@ -7,3 +7,4 @@ mod script;
 
 pub use read::read_sql;
 pub use refusal::SqlRefusal;
+pub use sql_writer::write_sql;

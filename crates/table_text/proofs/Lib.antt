@@ -14,3 +14,4 @@ pub mod Complete
 pub mod Written
 pub mod LineLaws
 pub mod OneOutcome
+pub mod HeldCells

@@ -5,9 +5,9 @@ ghost use Rattle.std.specs.Prelude.{◌≡◌, ◌++◌, ◌∷◌, ◌<◌, [],
 ghost use Rattle.std.specs.List.{flat_map, list_all};
 ghost use Rattle.rel_cells.specs.Fronts.{KeepsFront};
 ghost use Rattle.table_meaning.specs.CellText.{ended, after_tab};
-ghost use Rattle.table_meaning.specs.Tables.{table_at, row_at};
-ghost use Rattle.table_meaning.specs.TableText.{column_text, head_line, table_text, is_plain_table, kind_mark};
-ghost use Rattle.table_text.specs.Writing.{tab_before, row_front, rows_front, table_front};
+ghost use Rattle.table_meaning.specs.Tables.{table_at, row_at, is_table_set};
+ghost use Rattle.table_meaning.specs.TableText.{column_text, head_line, table_text, is_plain_table, is_held_table, is_spelled_set, kind_mark};
+ghost use Rattle.table_text.specs.Writing.{tab_before, row_front, rows_front, table_front, cells_held, rows_held};
 
 use rel_cells::{Column, Kind, TableSet, write_cell};
 use std::alloc::AllocError;
@@ -75,6 +75,7 @@ fn write_row<T: TableSet>(
     requires columns { columns ≡ length (table_at (T.named_tables tables.now) t).schema }
     ensures ok { OnOk result (into.new.items ≡ into.old.items ++ row_front (row_at (T.named_tables tables.now) t row) columns) }
     ensures kept { KeepsFront into.old.items into.new.items }
+    ensures held { OnOk result (IsTrue (cells_held (row_at (T.named_tables tables.now) t row) columns)) }
 {
     for col in 0..columns {
         write_tab(col, into)?;
@@ -93,6 +94,7 @@ fn write_rows<T: TableSet>(
     requires columns { columns ≡ length (table_at (T.named_tables tables.now) t).schema }
     ensures ok { OnOk result (into.new.items ≡ into.old.items ++ rows_front (T.named_tables tables.now) t (length (table_at (T.named_tables tables.now) t).rows)) }
     ensures kept { KeepsFront into.old.items into.new.items }
+    ensures held { OnOk result (IsTrue (rows_held (T.named_tables tables.now) t (length (table_at (T.named_tables tables.now) t).rows))) }
 {
     for row in 0..tables.rows(t) {
         write_row(tables, t, row, columns, into)?;
@@ -105,6 +107,7 @@ fn write_table<T: TableSet>(tables: &T, t: usize, into: &mut Vec<u8>) -> Result<
     requires { t < length (T.named_tables tables.now) }
     ensures ok { OnOk result (into.new.items ≡ into.old.items ++ table_front (T.named_tables tables.now) t) }
     ensures kept { KeepsFront into.old.items into.new.items }
+    ensures held { OnOk result (IsTrue (rows_held (T.named_tables tables.now) t (length (table_at (T.named_tables tables.now) t).rows))) }
 {
     let columns = tables.schema(t).columns();
     write_head(tables.name(t).bytes(), columns, into)?;
@@ -114,6 +117,8 @@ fn write_table<T: TableSet>(tables: &T, t: usize, into: &mut Vec<u8>) -> Result<
 fn write_all<T: TableSet>(tables: &T, into: &mut Vec<u8>) -> Result<(), AllocError>
     ensures ok { OnOk result (into.new.items ≡ into.old.items ++ table_text (T.named_tables tables.now)) }
     ensures kept { KeepsFront into.old.items into.new.items }
+    ensures set { OnOk result (IsTrue (is_table_set (T.named_tables tables.now))) }
+    ensures held { OnOk result (IsTrue (list_all is_held_table (T.named_tables tables.now))) }
 {
     into.extend_from_slice(b"tables 1\n")?;
     for t in 0..tables.tables() {
@@ -123,10 +128,13 @@ fn write_all<T: TableSet>(tables: &T, into: &mut Vec<u8>) -> Result<(), AllocErr
 }
 
 /// Appends the lines of the tables, up to and without the line `-- sql`; after an error `into` is
-/// as before. The names must be names of the SQL dialect, and no column may have truths.
+/// as before. The names must be names of the SQL dialect, and no column may have truths; what is
+/// written is then a text that spells these tables.
+#[tactic(auto, using(crate::proofs::HeldCells::written_set, rel_cells::specs::Fronts::kept_same, rel_cells::specs::Fronts::kept_append, rel_cells::specs::Fronts::kept_on))]
 pub fn write_tables<T: TableSet>(tables: &T, into: &mut Vec<u8>) -> Result<(), AllocError>
     requires { IsTrue (list_all is_plain_table (T.named_tables tables.now)) }
     ensures ok { OnOk result (into.new.items ≡ into.old.items ++ table_text (T.named_tables tables.now)) }
+    ensures spelled { OnOk result (IsTrue (is_spelled_set (T.named_tables tables.now))) }
     ensures err { OnErr result (into.new.items ≡ into.old.items) }
 {
     let start = into.len();

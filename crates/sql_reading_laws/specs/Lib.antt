@@ -1,0 +1,9 @@
+pub mod Tables
+pub mod OneScript
+pub mod TokenForms
+pub mod Parts
+pub mod Lists
+pub mod Expressions
+pub mod Scripts
+pub mod Levels
+pub mod Depths

@@ -1,0 +1,3 @@
+pub mod Aliases
+pub mod RenamedRows
+pub mod RenamedValues

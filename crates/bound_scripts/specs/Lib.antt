@@ -1,0 +1,6 @@
+pub mod Levels
+pub mod Values
+pub mod ValueLaws
+pub mod Sources
+pub mod Selects
+pub mod Rows

@@ -1,0 +1,4 @@
+pub mod Places
+pub mod TableCells
+pub mod Known
+pub mod Level

@@ -1,0 +1,7 @@
+use Rattle.std.proofs.Common.{◌≡◌, take}
+use Rattle.std.specs.List.{flat_map}
+use Rattle.bound_scripts.specs.Selects.{bound_select_rows}
+use Rattle.sql_engine.proofs.rows.body_rows.Given as goal
+
+abbrev pub invariant-loop-core : goal.invariant-loop-core
+invariant-loop-core g l = l.rows.items ≡ flat_map (bound_select_rows l.relations) (take l.core-index l.core-items)

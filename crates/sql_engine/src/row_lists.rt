@@ -1,0 +1,26 @@
+//! The rows of a script under the schema of its columns.
+
+ghost use Rattle.std.specs.Prelude.{◌≡◌, IfOk, IsTrue};
+ghost use Rattle.table_meaning.specs.Tables.{are_rows};
+ghost use Rattle.bound_scripts.specs.Rows.{bound_rows};
+
+use crate::rows::bound_rows_of;
+use bound_scripts::BoundScript;
+use rel_cells::{RowList, Schema, TableSet};
+use std::alloc::{AllocError, Global};
+
+/// The rows of a script over a set of tables, in their order, under a schema whose kinds they have.
+pub fn row_list<T: TableSet>(
+    alloc: Global,
+    schema: &Schema,
+    script: &BoundScript,
+    tables: &T,
+) -> Result<RowList, AllocError>
+    requires { IsTrue (are_rows schema.now (bound_rows script.now (T.named_tables tables.now))) }
+    ensures { IfOk result (λ list. list ≡ record { schema = schema.now; rows = bound_rows script.now (T.named_tables tables.now) }) }
+{
+    let _ = schema.columns();
+    let schema = schema.copy(alloc)?;
+    let rows = bound_rows_of(alloc, script, tables)?;
+    Ok(RowList { schema, rows })
+}

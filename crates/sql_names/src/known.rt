@@ -1,0 +1,124 @@
+//! Tables and steps by their names.
+
+ghost use Rattle.std.specs.Prelude.{◌≡◌, ◌++◌, ◌∷◌, [], map, IfOk, OnOk, IsTrue, None, Some, MatchOption};
+ghost use Rattle.table_meaning.specs.Schemas.{are_distinct};
+ghost use Rattle.sql_rows_meaning.specs.declared.schema.NamedSchema.{NamedSchema};
+ghost use Rattle.sql_rows_meaning.specs.Scopes.{schemas_of};
+ghost use Rattle.script_places.specs.Places.{number_of};
+ghost use Rattle.sql_names.specs.Entries.{all_named};
+
+use indexmap::IndexMap;
+use rdf_meaning::Text;
+use sql_rows_meaning::NamedSchema;
+use std::alloc::{AllocError, Global};
+use std::marker::Model;
+use table_meaning::Column;
+
+/// Columns, as a list.
+#[derive(Drop)]
+struct Columns {
+    columns: Vec<Column>,
+}
+
+impl Model for Columns {
+    ghost use Rattle.std.specs.Prelude.{List};
+    ghost use Rattle.table_meaning.specs.declared.schema.Column.{Column};
+
+    ghost Value = { List Column };
+
+    ghost view = { λ c. c.columns.items };
+}
+
+/// A table or a step: its number, from 0, and its columns.
+#[derive(Clone, Copy)]
+pub struct Relation<'a> {
+    pub number: usize,
+    pub columns: &'a [Column],
+}
+
+/// The tables and, behind them, the steps so far: contracts see a list of names and columns.
+#[derive(Drop)]
+pub struct Known {
+    relations: IndexMap<Text, Columns>,
+}
+
+impl Model for Known {
+    ghost use Rattle.std.specs.Prelude.{List};
+    ghost use Rattle.sql_rows_meaning.specs.declared.schema.NamedSchema.{NamedSchema};
+    ghost use Rattle.sql_names.specs.Entries.{all_named};
+
+    ghost Value = { List NamedSchema };
+
+    ghost view = { λ k. all_named k.relations.entries };
+}
+
+// Puts a name last that isn't there.
+fn add_new(
+    alloc: Global,
+    relations: &mut IndexMap<Text, Columns>,
+    name: &Text,
+    columns: Vec<Column>,
+) -> Result<(), AllocError>
+    requires { schemas_of (all_named relations.old.entries) name.now ≡ None }
+    ensures { OnOk result (relations.new.entries ≡ relations.old.entries ++ (name.now, columns.items) ∷ []) }
+{
+    let Ok(_old) = relations.insert(name.copy(alloc)?, Columns { columns }) else {
+        return Err(AllocError);
+    };
+    Ok(())
+}
+
+// Equal columns.
+fn copied(alloc: Global, columns: &[Column]) -> Result<Vec<Column>, AllocError>
+    ensures { IfOk result (λ copies. copies.items ≡ columns.now) }
+{
+    let mut copies = Vec::with_capacity(alloc, columns.len())?;
+    for column in columns {
+        copies.push(column.copy(alloc)?)?;
+    }
+    Ok(copies)
+}
+
+impl Known {
+    /// The given tables, whose names differ.
+    #[tactic(auto, using(crate::proofs::Lookups::absent_yet, crate::proofs::Lookups::taken_next))]
+    pub fn new(alloc: Global, schemas: &[NamedSchema]) -> Result<Known, AllocError>
+        requires { IsTrue (are_distinct (map (λ (s : NamedSchema). s.name) schemas.now)) }
+        ensures { IfOk result (λ known. known ≡ schemas.now) }
+    {
+        let mut relations = IndexMap::new(alloc);
+        for at in 0..schemas.len() {
+            let given = &schemas[at];
+            let columns = copied(alloc, given.schema.columns())?;
+            add_new(alloc, &mut relations, &given.name, columns)?;
+        }
+        Ok(Known { relations })
+    }
+
+    /// The table or step of this name; None exactly where there is none.
+    pub fn find(&self, name: &Text) -> Option<Relation<'_>>
+        ensures { MatchOption result (schemas_of self.now name.now ≡ None) (λ r. (schemas_of self.now name.now ≡ Some r.columns.now) × (r.number ≡ number_of self.now name.now)) }
+    {
+        match self.relations.get_full(name) {
+            Some((number, _, found)) => Some(Relation {
+                number,
+                columns: found.columns.as_slice(),
+            }),
+            None => None,
+        }
+    }
+
+    /// Adds a step, whose name isn't there, behind the others.
+    #[tactic(auto, using(crate::proofs::Lookups::one_more))]
+    pub fn add(
+        &mut self,
+        alloc: Global,
+        name: &Text,
+        columns: Vec<Column>,
+    ) -> Result<(), AllocError>
+        requires { schemas_of self.old name.now ≡ None }
+        ensures { OnOk result (self.new ≡ self.old ++ record { name = name.now; schema = columns.items } ∷ []) }
+    {
+        add_new(alloc, &mut self.relations, name, columns)
+    }
+}

@@ -1,0 +1,2 @@
+//! What a visitor of scripts makes of their nodes: definitions.
+#![tactic(auto)]

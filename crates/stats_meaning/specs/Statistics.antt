@@ -1,8 +1,13 @@
--- Table statistics: what is counted of the tables of a store, and its text (this project's own).
+-- Table statistics: what is counted of tables that stand for triples, and its text (this project's own).
 use Rattle.std.specs.Prelude.{◌≡◌, ℕ, List, [], ◌∷◌, ◌++◌, length, codes}
 use Rattle.std.specs.Fmt.{decimal}
-use Rattle.layout_meaning.specs.Rows.{SideOf, IsCountOf, is_spilled, row_total}
-use Rattle.standing_meaning.specs.Stored.{StoreOf, stored_triples}
+use Rattle.rdf_meaning.specs.Terms.{RdfTriple}
+use Rattle.table_meaning.specs.Tables.{NamedTable}
+use Rattle.layout_meaning.specs.Columns.{ColumnsOf}
+use Rattle.layout_meaning.specs.Rows.{IsCountOf}
+use Rattle.standing_meaning.specs.Schemas.{LayoutOf}
+use Rattle.standing_meaning.specs.Contents.{SideContents, Contents}
+use Rattle.standing_meaning.specs.Standing.{AreTables, Says, is_spilled_in}
 
 pub record SideStatsOf : Type 0 where
   pub columns : ℕ
@@ -17,18 +22,21 @@ pub record StatsOf : Type 0 where
   pub reverse : SideStatsOf
 
 -- the columns, the rows of the primary table, the lists, and the predicates that are spilled
-pub record AreSideStats (s : SideOf) (stats : SideStatsOf) : Type 0 where
-  pub columns : stats.columns ≡ s.columns.count
-  pub rows : stats.rows ≡ row_total s.state.entities
-  pub lists : stats.lists ≡ length s.state.lists
-  pub spilled : IsCountOf (λ p. is_spilled p s.state.entities) stats.spilled
+pub record AreSideStats (of : ColumnsOf) (s : SideContents) (stats : SideStatsOf) : Type 0 where
+  pub columns : stats.columns ≡ of.count
+  pub rows : stats.rows ≡ length s.rows
+  pub lists : stats.lists ≡ length s.lists
+  pub spilled : IsCountOf (λ p. is_spilled_in p s.rows) stats.spilled
 
--- the triples that are stored, the terms of the dictionary, and what is counted of both sides
-pub record AreStats (s : StoreOf) (stats : StatsOf) : Type 0 where
-  pub triples : stats.triples ≡ length (stored_triples s)
-  pub terms : stats.terms ≡ length s.terms
-  pub direct : AreSideStats s.direct stats.direct
-  pub reverse : AreSideStats s.reverse stats.reverse
+-- the triples that tables stand for under a layout, the terms of the tables, and what is counted of both sides
+pub record AreStats (layout : LayoutOf) (tables : List NamedTable) (g : List RdfTriple) (stats : StatsOf) : Type 0 where
+  pub contents : Contents
+  pub exact_tables : AreTables layout contents tables
+  pub same_triples : Says layout contents g
+  pub triples : stats.triples ≡ length g
+  pub terms : stats.terms ≡ length contents.terms
+  pub direct : AreSideStats layout.direct contents.direct stats.direct
+  pub reverse : AreSideStats layout.reverse contents.reverse stats.reverse
 
 -- a word and a number, with a blank between
 abbrev pub counted : List ℕ → ℕ → List ℕ

@@ -1,7 +1,7 @@
 //! Laws of stores: what a store is and holds after a triple was put in, taken out or refused.
 #![tactic(auto)]
 
-ghost use Rattle.std.specs.Prelude.{◌≡◌, ◌∷◌, if◌then◌else◌};
+ghost use Rattle.std.specs.Prelude.{◌≡◌, ◌∷◌, true, false, if◌then◌else◌};
 ghost use Rattle.bags.specs.Bag.{SameBag};
 ghost use Rattle.rdf_meaning.specs.Terms.{RdfTriple};
 ghost use Rattle.standing_meaning.specs.Dictionary.{IsTriple};
@@ -24,4 +24,10 @@ pub fn taken()
 pub fn refused()
     ensures store { (s : StoreOf) (t : RdfTriple) (new : StoreOf) → IsStore s → IsTriple t → IsRefused s t new → IsStore new }
     ensures triples { (s : StoreOf) (t : RdfTriple) (new : StoreOf) → IsStore s → IsTriple t → IsRefused s t new → stored_triples new ≡ stored_triples s }
+{}
+
+/// Putting in a triple that is stored changes nothing, and neither does taking out one that isn't.
+pub fn unchanged()
+    ensures there { (s : StoreOf) (t : RdfTriple) → IsStore s → IsTriple t → is_stored s t ≡ true → stored_in s t ≡ s }
+    ensures absent { (s : StoreOf) (t : RdfTriple) → IsStore s → is_stored s t ≡ false → taken_out s t ≡ s }
 {}

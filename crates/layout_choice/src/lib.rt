@@ -1,0 +1,6 @@
+//! How the columns of a store are chosen.
+#![tactic(auto)]
+
+mod choice;
+
+pub use choice::{ColourWay, LayoutChoice};

@@ -1,0 +1,2 @@
+pub mod RowForms
+pub mod Places

@@ -65,11 +65,11 @@ triple_back w rest triple h z =
     let go = past is_blank h.after_o (46 ∷ rest) h.after_o_blank refl in
     rw (h.whole, regroup h.s h.after_s h.p h.after_p h.o h.after_o rest, so, gs, po, gp, oo, go) refl
 
-comment_blank : (comment : List ℕ) → IsComment comment → prefix_len is_blank comment ≡ 0
+pub comment_blank : (comment : List ℕ) → IsComment comment → prefix_len is_blank comment ≡ 0
 comment_blank comment (inl e) = rw e refl
 comment_blank comment (inr h) = rw h.1 refl
 
-comment_ends : (comment : List ℕ) → IsComment comment → is_end comment ≡ true
+pub comment_ends : (comment : List ℕ) → IsComment comment → is_end comment ≡ true
 comment_ends comment (inl e) = rw e refl
 comment_ends comment (inr h) = rw h.1 refl
 

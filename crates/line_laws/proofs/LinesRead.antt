@@ -64,7 +64,7 @@ triple_front cs x e =
           ∙ sym (regroup sf.written (gap s.0.1) pf.written (gap p.0.1) of.written (gap o.0.1) d.0);
     })
 
-end_is : (cs : List ℕ) → is_end cs ≡ true → IsComment cs
+pub end_is : (cs : List ℕ) → is_end cs ≡ true → IsComment cs
 end_is [] e = inl refl
 end_is (c ∷ cs) e = let at : c ≡ 35 = (Decides-eqb c 35).0 e in inr (cs, ap (λ (d : ℕ). d ∷ cs) at)
 

@@ -25,14 +25,15 @@ fn count_blanks(chars: &[char]) -> usize
     chars.len()
 }
 
-pub(crate) fn after_blanks(chars: &[char]) -> &[char]
+/// What follows the blanks at the front.
+pub fn after_blanks(chars: &[char]) -> &[char]
     ensures { result.now ≡ after_blanks chars.now }
 {
     &chars[count_blanks(chars)..]
 }
 
 /// What follows this character.
-pub(crate) fn after_char(c: char, chars: &[char]) -> Option<&[char]>
+pub fn after_char(c: char, chars: &[char]) -> Option<&[char]>
     ensures { option_map (λ rest. rest.now) result ≡ after_char c chars.now }
 {
     let (first, rest) = chars.split_first()?;
@@ -50,7 +51,7 @@ pub(crate) fn starts(c: char, chars: &[char]) -> bool
 }
 
 /// Whether nothing is left but a comment.
-pub(crate) fn is_end(chars: &[char]) -> bool
+pub fn is_end(chars: &[char]) -> bool
     ensures { result ≡ is_end chars.now }
 {
     match chars.first() {

@@ -172,7 +172,7 @@ pub(crate) fn lower_text(alloc: Global, chars: &[char]) -> Result<String, AllocE
 
 /// The text of these characters.
 #[tactic(auto, using(crate::proofs::Texts::encoded_next, crate::proofs::Texts::scalars_next))]
-pub(crate) fn text_of_chars(alloc: Global, chars: &[char]) -> Result<String, AllocError>
+pub fn text_of_chars(alloc: Global, chars: &[char]) -> Result<String, AllocError>
     ensures bytes { IfOk result (λ text. string_bytes text ≡ encode_utf8_all chars.now) }
     ensures scalars { IfOk result (λ _. all_scalars chars.now ≡ true) }
 {

@@ -113,9 +113,9 @@ fn content(alloc: Global, chars: &[char]) -> Result<Said, AllocError>
     }
 }
 
-// The characters of a text.
+/// The characters of a text.
 #[tactic(auto, using(std::proofs::lemmas::Str::chars_from_encodes))]
-fn chars_of(alloc: Global, text: &str) -> Result<Vec<char>, AllocError>
+pub fn chars_of(alloc: Global, text: &str) -> Result<Vec<char>, AllocError>
     ensures { IfOk result (λ characters. characters.items ≡ chars text.now) }
 {
     text.chars().collect(alloc)

@@ -13,7 +13,7 @@ use line_meaning::Change;
 use std::alloc::Global;
 
 /// The most bytes that a line may have.
-const MAX_LINE: usize = 65536;
+pub const MAX_LINE: usize = 65536;
 
 // How many bytes stand before the first end of a line.
 fn line_len(bytes: &[u8]) -> usize
@@ -34,8 +34,8 @@ fn rise_of(end: u8) -> u64
     if end == b'\n' { 1 } else { 0 }
 }
 
-// The first line, and where an end comes what follows it, with how much the number of lines rises.
-fn split_line(bytes: &[u8]) -> (&[u8], Option<(&[u8], u64)>)
+/// The first line, and where an end comes what follows it, with how much the number of lines rises.
+pub fn split_line(bytes: &[u8]) -> (&[u8], Option<(&[u8], u64)>)
     ensures lines { (n : ℕ) → lines_from n bytes.now ≡ record { number = n; text = result.0.now } ∷ lines_after n result.1 }
     ensures shorter { IfSome result.1 (λ x. length x.0.now + x.1 ≤ length bytes.now) }
     ensures falls { IfSome result.1 (λ x. length x.0.now < length bytes.now) }

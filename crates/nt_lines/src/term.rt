@@ -13,9 +13,9 @@ use line_meaning::Enclosure;
 use rdf_meaning::{KnownDatatype, Term, TermKind, Text, text_of};
 use std::alloc::{AllocError, Global};
 
-// An IRI in brackets, and what follows.
+/// An IRI in brackets, and what follows.
 #[tactic(auto, unfolding(line_meaning::specs::Reader::iri_at))]
-fn iri_at(alloc: Global, chars: &[char]) -> Result<Option<(String, &[char])>, AllocError>
+pub fn iri_at(alloc: Global, chars: &[char]) -> Result<Option<(String, &[char])>, AllocError>
     ensures { IfOk result (λ x. front_text x ≡ iri_at chars.now) }
 {
     match after_char('<', chars) {

@@ -4,3 +4,5 @@ pub mod Counting
 pub mod CountSteps
 pub mod Sides
 pub mod Viewed
+pub mod Moved
+pub mod Both

@@ -1,6 +1,7 @@
 //! Cells of rows.
 
 ghost use Rattle.std.specs.Prelude.{◌≡◌, ◌==◌, ◌≤◌, ◌<◌, ◌^◌, ◌≤ℤ◌, pos, List, ℕ, length, IfOk, Option, None, Some, IsTrue, map, replicate};
+ghost use Rattle.std.specs.List.{list_all};
 ghost use Rattle.layout_meaning.specs.Side.{is_pred, is_none, find_in_row, write_in_row, all_free, free_at, put_at, first_free};
 ghost use Rattle.primary_rows.specs.Cells.{value_of, fits, fits_cell, pair_of, pair_with, is_small, is_small_if};
 
@@ -36,7 +37,7 @@ impl Model for Row {
 }
 
 /// What stands in a pair that isn't free.
-fn value_in(pair: Pair) -> Value
+pub(crate) fn value_in(pair: Pair) -> Value
     requires filled { 1 ≤ pair.pred }
     requires fits { IsTrue (fits pair) }
     ensures { result ≡ value_of pair.value }
@@ -61,7 +62,7 @@ fn cell_of(value: Value) -> i64
 }
 
 /// A pair with this predicate and value.
-fn filled(pred: u32, value: Value) -> Pair
+pub(crate) fn filled(pred: u32, value: Value) -> Pair
     requires low { 1 ≤ pred }
     requires small { IsTrue (is_small value) }
     ensures pair { pair_of result ≡ Some (record { pred = pred; value = value }) }
@@ -109,8 +110,24 @@ impl Row {
         Ok(Row { pairs })
     }
 
+    /// A row of these pairs.
+    pub(crate) fn of(pairs: Vec<Pair>) -> Row
+        requires { IsTrue (list_all fits pairs.items) }
+        ensures { result ≡ map pair_of pairs.items }
+    {
+        Row { pairs }
+    }
+
     pub(crate) fn cells(&self) -> &[Pair]
         ensures { map pair_of result.now ≡ self.now }
+    {
+        self.pairs.as_slice()
+    }
+
+    /// The cells, with what is known of each pair.
+    pub(crate) fn pairs(&self) -> &[Pair]
+        ensures value { map pair_of result.now ≡ self.now }
+        ensures fits { IsTrue (list_all fits result.now) }
     {
         self.pairs.as_slice()
     }

@@ -1,6 +1,6 @@
 //! How often each predicate stands behind the first row of an entity.
 
-ghost use Rattle.std.specs.Prelude.{◌≡◌, ◌+◌, ◌-◌, ◌<◌, ◌==◌, ℕ, nat_lt, IsSome, [], OnOk, OnErr, Some};
+ghost use Rattle.std.specs.Prelude.{◌≡◌, ◌+◌, ◌-◌, ◌<◌, ◌==◌, if◌then◌else◌, ℕ, nat_lt, IsSome, [], OnOk, OnErr, Some};
 ghost use Rattle.std.specs.Ordering.{nat_cmp};
 ghost use Rattle.std.specs.BTreeMap.{get, is_at};
 ghost use Rattle.std.specs.Map.{set_value};
@@ -71,6 +71,31 @@ impl SpillCounts {
         let Ok(_old) = self.counts.insert(pred, more) else {
             return Err(AllocError);
         };
+        Ok(())
+    }
+
+    /// Raises the count of a predicate by a number that isn't 0.
+    fn raise_by(&mut self, pred: u32, by: u64) -> Result<(), AllocError>
+        requires { 0 < by }
+        ensures { OnOk result ((q : ℕ) → count_in self.new q ≡ count_in self.old q + (if pred == q then by else 0)) }
+    {
+        let count = self.count(pred);
+        let Some(more) = count.checked_add(by) else {
+            return Err(AllocError);
+        };
+        let Ok(_old) = self.counts.insert(pred, more) else {
+            return Err(AllocError);
+        };
+        Ok(())
+    }
+
+    /// Raises each count by another one.
+    pub(crate) fn add(&mut self, later: &SpillCounts) -> Result<(), AllocError>
+        ensures { OnOk result ((q : ℕ) → count_in self.new q ≡ count_in self.old q + count_in later.now q) }
+    {
+        for (pred, count) in &later.counts {
+            self.raise_by(*pred, *count)?;
+        }
         Ok(())
     }
 

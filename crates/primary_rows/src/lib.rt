@@ -1,6 +1,7 @@
 //! One side of the hashed layout: the rows of its entities, and its lists.
 #![tactic(auto)]
 
+mod append;
 mod cells;
 mod counts;
 mod rows;

@@ -39,6 +39,14 @@ impl EntityRows {
         }
     }
 
+    /// These rows.
+    pub(crate) fn of(rows: Vec<Row>) -> EntityRows
+        requires { length rows.items ≤ 4294967295 }
+        ensures { result ≡ rows.items }
+    {
+        EntityRows { rows }
+    }
+
     pub(crate) fn as_slice(&self) -> &[Row]
         ensures rows { result.now ≡ self.now }
         ensures few { length result.now ≤ 4294967295 }

@@ -16,6 +16,7 @@ ghost use Rattle.layout_meaning.specs.Sound.{IsSound};
 ghost use Rattle.layout_meaning.specs.Rows.{numbered_rows, IsCountOf, is_spilled, row_total, placed_in, taken_from, KeepsToNames, name_in};
 ghost use Rattle.value_lists.specs.Answers.{put_of, take_out_of, HasNumber};
 ghost use Rattle.primary_rows.specs.Answers.{took_of};
+ghost use Rattle.bulk_meaning.specs.Appended.{appended_side, IsAbove};
 
 use crate::table::Table;
 use crate::views::RowView;
@@ -122,6 +123,35 @@ impl Side {
         ensures keeps { (names : List (ℕ × List ℕ)) → KeepsToNames names self.old → KeepsToNames names self.new }
     {
         self.take_away(entity, pred, value)
+    }
+
+    /// The rows of this side and those of a later one behind them. The later rows are as they are, but their
+    /// lists have the next ids of this side, by rising entity, row number and column. Where these are at their
+    /// end, the answer is want of memory.
+    pub fn append(self, alloc: Global, later: Side) -> Result<Side, AllocError>
+        requires same { later.columns ≡ self.columns }
+        requires above { IsAbove self.state.entities later.state.entities }
+        ensures side { IfOk result (λ side. side ≡ appended_side self later) }
+        ensures keeps { IfOk result (λ side. (names : List (ℕ × List ℕ)) → KeepsToNames names self → KeepsToNames names later → KeepsToNames names side) }
+    {
+        let Side {
+            columns,
+            table,
+            mut lists,
+            held,
+        } = self;
+        let Some(held) = held.checked_add(later.held) else {
+            return Err(AllocError);
+        };
+        let table = table.append(alloc, &later.table, &later.lists, &mut lists)?;
+        // That the ids aren't used up is told by a call.
+        let _next = lists.next_number();
+        Ok(Side {
+            columns,
+            table,
+            lists,
+            held,
+        })
     }
 
     fn put_in(
@@ -311,7 +341,12 @@ fn place(
 }
 
 /// Makes a list of two values, and gives its number.
-fn start(lists: &mut Lists, alloc: Global, first: u32, second: u32) -> Result<u64, SideRefusal>
+pub(crate) fn start(
+    lists: &mut Lists,
+    alloc: Global,
+    first: u32,
+    second: u32,
+) -> Result<u64, SideRefusal>
     requires { nat_eq second first ≡ false }
     ensures number { IfOk result (λ n. n ≡ lists.old.next) }
     ensures ok { OnOk result (lists.new ≡ with_list lists.old (first ∷ second ∷ [])) }

@@ -14,7 +14,11 @@ ghost use Rattle.layout_meaning.specs.Rows.{numbered_rows, rows_from, is_spilled
 ghost use Rattle.primary_rows.specs.Cells.{is_small, is_small_if, pair_of, pair_with};
 ghost use Rattle.primary_rows.specs.Places.{opens, goes_behind, first_row, drops, gone};
 ghost use Rattle.primary_rows.specs.Counted.{count_in};
+ghost use Rattle.std.specs.List.{AllByRecursion};
+ghost use Rattle.layout_meaning.specs.Sound.{IsSoundList};
+ghost use Rattle.bulk_meaning.specs.Appended.{given_entities, named_lists, with_lists, IsAbove};
 
+use crate::append::move_entities;
 use crate::cells::Pair;
 use crate::counts::SpillCounts;
 use crate::rows::EntityRows;
@@ -23,6 +27,7 @@ use layout_meaning::Value;
 use std::alloc::{AllocError, Global};
 use std::collections::BTreeMap;
 use std::marker::Model;
+use value_lists::Lists;
 
 /// The rows of all entities, which contracts see as pairs of an entity and its rows, by rising entity.
 #[derive(Drop)]
@@ -82,6 +87,37 @@ impl Table {
             push_views(&mut views, *entity, rows)?;
         }
         Ok(views)
+    }
+
+    /// The rows of both, where each later entity is above all others. The lists of the later rows are copied
+    /// under the next numbers.
+    pub(crate) fn append(
+        self,
+        alloc: Global,
+        later: &Table,
+        from: &Lists,
+        to: &mut Lists,
+    ) -> Result<Table, AllocError>
+        requires above { IsAbove self later.now }
+        requires good { AllByRecursion IsSoundList (named_lists from.now.lists later.now) }
+        ensures table { IfOk result (λ table. table ≡ self ++ given_entities to.old.next later.now) }
+        ensures lists { OnOk result (to.new ≡ with_lists to.old (named_lists from.now.lists later.now)) }
+    {
+        let Table {
+            mut entities,
+            rows,
+            mut spilled,
+        } = self;
+        let Some(rows) = rows.checked_add(later.rows) else {
+            return Err(AllocError);
+        };
+        spilled.add(&later.spilled)?;
+        move_entities(&mut entities, alloc, &later.entities, from, to)?;
+        Ok(Table {
+            entities,
+            rows,
+            spilled,
+        })
     }
 
     /// What stands under a predicate of an entity.

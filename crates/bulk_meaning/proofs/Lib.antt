@@ -1,0 +1,4 @@
+pub mod Turns
+pub mod MoreLists
+pub mod Sides
+pub mod Going

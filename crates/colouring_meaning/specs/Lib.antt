@@ -1,0 +1,2 @@
+pub mod ColourLines
+pub mod ColourReader

@@ -1,0 +1,12 @@
+//! Interference of predicates and their greedy colouring.
+#![tactic(auto)]
+
+mod colouring;
+mod colours;
+mod graph;
+mod neighbours;
+mod turns;
+
+pub use colouring::colour;
+pub use colours::Coloured;
+pub use graph::{EntityPreds, Graph, interference};

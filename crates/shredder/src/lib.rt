@@ -1,0 +1,6 @@
+//! Bulk placing: the side of many items at once.
+#![tactic(auto)]
+
+mod bulk;
+
+pub use bulk::{Placed, shred};

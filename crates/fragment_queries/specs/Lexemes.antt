@@ -48,9 +48,13 @@ variable_number names n = if nat_lt (place_of names n) 64 then place_of names n 
 
 -- ---- numbers
 
+-- what is no digit counts for nothing: no integer has such a character behind its sign
+abbrev pub digit : ℕ → ℕ
+digit c = if is_digit c then c - 48 else 0
+
 abbrev pub decimal : ℕ → List ℕ → ℕ
 decimal n [] = n
-decimal n (c ∷ cs) = decimal (10 * n + (c - 48)) cs
+decimal n (c ∷ cs) = decimal (10 * n + digit c) cs
 
 abbrev pub without_zeros : List ℕ → List ℕ
 without_zeros [] = []

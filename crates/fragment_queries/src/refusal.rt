@@ -1,6 +1,7 @@
 //! Why a text isn't read as a query.
 
 use fragment_meaning::Feature;
+use std::alloc::AllocError;
 
 /// A quantity of a query that has a greatest number.
 #[derive(Clone, Copy, Debug, PartialEq, Eq)]
@@ -31,4 +32,15 @@ pub enum QueryRefusal {
     Syntax { at: usize },
     UnknownPrefix { at: usize },
     Limit { which: QueryLimit },
+}
+
+impl From<AllocError> for QueryRefusal {
+    ghost use Rattle.std.specs.Prelude.{◌≡◌};
+    ghost use Rattle.fragment_queries.specs.declared.refusal.QueryRefusal.TheVariants as refusal;
+
+    ghost from_gives = { λ _ r. r ≡ refusal.NoMemory };
+
+    fn from(_: AllocError) -> QueryRefusal {
+        QueryRefusal::NoMemory
+    }
 }

@@ -1,0 +1,5 @@
+pub mod Depth
+pub mod Roles
+pub mod Passing
+pub mod States
+pub mod Faults

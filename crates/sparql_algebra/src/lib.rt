@@ -1,0 +1,9 @@
+//! Queries of the algebra: their types, their constants, and sets of variables.
+#![tactic(auto)]
+
+pub use query_constants::constants;
+pub use query_meaning::{
+    CompareOp, Element, Group, Key, Modifiers, Pattern, Query, Slot, Syntax, TermTest, Tree,
+    TruthExpr, ValueExpr, VarId,
+};
+pub use variable_sets::VarSet;

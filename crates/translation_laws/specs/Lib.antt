@@ -1,0 +1,3 @@
+pub mod GroupInduction
+pub mod Parts
+pub mod TreePatterns

@@ -1,101 +1,63 @@
 -- How a run ends, from how its parts end.
-use Rattle.std.proofs.Common.{◌≡◌, ℕ, ◌<◌, ◌≤◌, List, [], ◌∷◌, Bool, true, refl, sym, subst, inl, inr, ◌⊎◌, arith}
-use Rattle.std.specs.Prelude.{Option, Some, None, Result, Ok, Err, IfSome, IsOkAnd, IsTrue, MatchResult, is_ok}
-use Rattle.std.specs.List.{AllByRecursion}
-use Rattle.line_meaning.specs.declared.change.Change.{Change}
-use Rattle.pattern_query.specs.Places.{NamedPattern}
+use Rattle.std.proofs.Common.{◌≡◌, ℕ, ◌<◌, List, [], ◌∷◌, ◌++◌, take, refl, sym, subst, inl, inr, ◌⊎◌, arith}
+use Rattle.std.specs.Prelude.{Option, Some, None, Result, Ok, Err, IfOk, IfErr, IfSome, IsOkAnd, MatchResult}
 use Rattle.store_io.specs.Causes.{Rose}
 use Rattle.run_meaning.specs.declared.status.Status.{Status}
-use Rattle.run_meaning.specs.declared.status.Status.TheVariants.{Done, Usage, BadData, Limit, ReadFault, WriteFault, NotYet, NoMemory}
+use Rattle.run_meaning.specs.declared.status.Status.TheVariants.{Done, Usage, BadData, Limit, ReadFault, WriteFault, BadTables, BadSql, NotYet, NoMemory}
 use Rattle.run_meaning.specs.declared.command.Command.{Command}
-use Rattle.run_meaning.specs.declared.command.Command.TheVariants.{Query}
-use Rattle.run_meaning.specs.declared.command.Options.{Options}
-use Rattle.run_meaning.specs.Outcome.{Contents, Texts, NamedFile, Work, answering, files_of, judged_data, judged_query, judged_work, outcome}
-use Rattle.run_meaning.specs.FittingText.{Fits, FitsFront}
-use Rattle.run_meaning.specs.Causes.{Faults, Tells, WhereTold, IsReached, NoReadFailed, Says, Completes}
-use Rattle.db2rdf_top.specs.Stops.{Stops, Puts, NamesSomething}
+use Rattle.outcome_meaning.specs.Outcome.{Contents, Texts, NamedFile, Work, files_of, Asks}
+use Rattle.outcome_meaning.specs.FittingText.{Fits, FitsFront, fitting_text}
+use Rattle.outcome_meaning.specs.Causes.{Faults, Tells, WhereTold, AsksFor, IsReached, NoReadFailed, Says, Completes}
+use Rattle.outcome_laws.specs.OneOutcome.{AskOnce}
+use Rattle.db2rdf_top.specs.Stops.{FitsAsked, Refuses, Puts, NamesSomething}
 
--- what holds where a text is told holds of the text
-told : (content : Option (List ℕ)) (text : List ℕ) (P : List ℕ → Type 0) → content ≡ Some text → IfSome content P → P text
-told content text P e h = rw e at h
+-- ---- what a text, or a refusal, says once it is put
 
--- the command over a data file and a query file
-abbrev asking : Options → List ℕ → List ℕ → Command
-asking options data_name query_name = Query options data_name query_name
+ok_map : (P Q : Work → Type 0) → ((work : Work) → P work → Q work) → (o : Result Work Status) → IsOkAnd o P → IsOkAnd o Q
+ok_map P Q f (Err status) h = h
+ok_map P Q f (Ok work) h = f work h
 
--- the data file is refused
-data_refused : (options : Options) (d q : List ℕ) (contents : Contents) (status : Status) → IfSome (contents d) (λ t. judged_data t ≡ Err status)
-    → WhereTold contents (asking options d q) (λ o. o ≡ Err status)
-data_refused options d q contents status f texts t =
-    let e : judged_data (texts d) ≡ Err status = told (contents d) (texts d) (λ t. judged_data t ≡ Err status) t.0 f in rw e refl
+asks_map : (P Q : Work → Type 0) → ((work : Work) → P work → Q work) → (asked : Result Command Status) (contents : Contents) → AsksFor asked contents P → AsksFor asked contents Q
+asks_map P Q f (Err status) contents h = h
+asks_map P Q f (Ok command) contents h = λ texts t. let x = h texts t in (x.0, x.1, ok_map P Q f x.0 x.2)
 
--- the query file is refused
-query_refused : (options : Options) (d q : List ℕ) (contents : Contents) (changes : List Change) (status : Status)
-    → IfSome (contents d) (λ t. judged_data t ≡ Ok changes) → IfSome (contents q) (λ t. judged_query t ≡ Err status)
-    → WhereTold contents (asking options d q) (λ o. o ≡ Err status)
-query_refused options d q contents changes status f p texts t =
-    let e : judged_data (texts d) ≡ Ok changes = told (contents d) (texts d) (λ t. judged_data t ≡ Ok changes) t.0 f in
-    let g : judged_query (texts q) ≡ Err status = told (contents q) (texts q) (λ t. judged_query t ≡ Err status) t.1.0 p in
-    rw (e, g) refl
+fits : (text : List ℕ) (old new : Option (List ℕ)) → IfSome old (λ bytes. new ≡ Some (bytes ++ text)) → (work : Work) → text ≡ fitting_text work → Fits work old new
+fits text None new h work is = tt
+fits text (Some bytes) new h work is = rw is at h
 
--- both are accepted
-asks : (options : Options) (d q : List ℕ) (contents : Contents) (changes : List Change) (query : NamedPattern) (P : Result Work Status → Type 0)
-    → IfSome (contents d) (λ t. judged_data t ≡ Ok changes) → IfSome (contents q) (λ t. judged_query t ≡ Ok query)
-    → P (judged_work (answering changes query)) → WhereTold contents (asking options d q) P
-asks options d q contents changes query P f p h texts t =
-    let e : judged_data (texts d) ≡ Ok changes = told (contents d) (texts d) (λ t. judged_data t ≡ Ok changes) t.0 f in
-    let g : judged_query (texts q) ≡ Ok query = told (contents q) (texts q) (λ t. judged_query t ≡ Ok query) t.1.0 p in
-    rw (e, g) h
+fits_front : (text : List ℕ) (old new : Option (List ℕ)) → IfSome old (λ bytes. (count : ℕ) × (new ≡ Some (bytes ++ take count text))) → (work : Work) → text ≡ fitting_text work → FitsFront work old new
+fits_front text None new h work is = tt
+fits_front text (Some bytes) new h work is = rw is at h
 
-accepted : (d : Option (List ℕ)) (changes : List Change) → IfSome d (λ t. judged_data t ≡ Ok changes) → IfSome d (λ t. IsTrue (is_ok (judged_data t)))
-accepted None changes f = tt
-accepted (Some t) changes f = rw f refl
+-- the text was put, or a front of it
+pub text_says : (status : Status) (text : List ℕ) (asked : Result Command Status) (contents : Contents) (faults : Faults) (old new : Option (List ℕ))
+    → FitsAsked text asked contents → Puts status text old new faults.out_before faults.out_after → Says status asked contents faults old new
+text_says Done text asked contents faults old new f p =
+    asks_map (λ work. text ≡ fitting_text work) (λ work. Fits work old new) (fits text old new p) asked contents f.told
+text_says WriteFault text asked contents faults old new f p =
+    (asks_map (λ work. text ≡ fitting_text work) (λ work. FitsFront work old new) (fits_front text old new p.0) asked contents f.told, p.1)
+text_says Usage text asked contents faults old new f p = absurd p
+text_says (BadData line) text asked contents faults old new f p = absurd p
+text_says (Limit which) text asked contents faults old new f p = absurd p
+text_says (BadTables line) text asked contents faults old new f p = absurd p
+text_says (BadSql why) text asked contents faults old new f p = absurd p
+text_says (ReadFault name) text asked contents faults old new f p = absurd p
+text_says NotYet text asked contents faults old new f p = absurd p
+text_says NoMemory text asked contents faults old new f p = absurd p
 
--- the data file stopped the run
-pub data_stops : (status : Status) (options : Options) (d q : List ℕ) (contents : Contents) (before after : List ℕ → ℕ) (out : Option (List ℕ)) (count : ℕ)
-    → Stops status d (λ s. IfSome (contents d) (λ t. judged_data t ≡ Err s)) (before d) (after d)
-    → Says status (Ok (asking options d q)) contents (record { before = before; after = after; out_before = count; out_after = count }) out out
-data_stops NoMemory options d q contents before after out count s = refl
-data_stops NotYet options d q contents before after out count s = (data_refused options d q contents NotYet s, refl)
-data_stops (BadData line) options d q contents before after out count s = (data_refused options d q contents (BadData line) s, refl)
-data_stops (Limit which) options d q contents before after out count s = (data_refused options d q contents (Limit which) s, refl)
-data_stops (ReadFault name) options d q contents before after out count s =
-    let P : List ℕ → Type 0 = λ m. before m < after m in
-    ((subst P (sym s.0) s.1, inl s.0), refl)
-data_stops Done options d q contents before after out count s = absurd s
-data_stops Usage options d q contents before after out count s = absurd s
-data_stops WriteFault options d q contents before after out count s = absurd s
-
--- the query file stopped the run
-pub query_stops : (status : Status) (options : Options) (d q : List ℕ) (contents : Contents) (before middle after : List ℕ → ℕ) (out : Option (List ℕ)) (count : ℕ) (changes : List Change)
-    → IfSome (contents d) (λ t. judged_data t ≡ Ok changes)
-    → Stops status q (λ s. IfSome (contents q) (λ t. judged_query t ≡ Err s)) (middle q) (after q)
-    → before q ≤ middle q
-    → Says status (Ok (asking options d q)) contents (record { before = before; after = after; out_before = count; out_after = count }) out out
-query_stops NoMemory options d q contents before middle after out count changes f s le = refl
-query_stops NotYet options d q contents before middle after out count changes f s le = (query_refused options d q contents changes NotYet f s, refl)
-query_stops (BadData line) options d q contents before middle after out count changes f s le = (query_refused options d q contents changes (BadData line) f s, refl)
-query_stops (Limit which) options d q contents before middle after out count changes f s le = (query_refused options d q contents changes (Limit which) f s, refl)
-query_stops (ReadFault name) options d q contents before middle after out count changes f s le =
-    let P : List ℕ → Type 0 = λ m. before m < after m in
-    let here : before q < after q = omega (arith, s.1) in
-    ((subst P (sym s.0) here, inr (accepted (contents d) changes f, inl s.0)), refl)
-query_stops Done options d q contents before middle after out count changes f s le = absurd s
-query_stops Usage options d q contents before middle after out count changes f s le = absurd s
-query_stops WriteFault options d q contents before middle after out count changes f s le = absurd s
-
--- the answer was put, or a limit was passed
-pub put_says : (status : Status) (options : Options) (d q : List ℕ) (contents : Contents) (faults : Faults) (old new : Option (List ℕ)) (changes : List Change) (query : NamedPattern)
-    → IfSome (contents d) (λ t. judged_data t ≡ Ok changes) → IfSome (contents q) (λ t. judged_query t ≡ Ok query)
-    → Puts status (answering changes query) old new faults.out_before faults.out_after → Says status (Ok (asking options d q)) contents faults old new
-put_says Done options d q contents faults old new changes query f p h = asks options d q contents changes query (λ o. IsOkAnd o (λ w. Fits w old new)) f p (rw h.0 h.1)
-put_says WriteFault options d q contents faults old new changes query f p h = (asks options d q contents changes query (λ o. IsOkAnd o (λ w. FitsFront w old new)) f p (rw h.0 h.1), h.2)
-put_says (Limit which) options d q contents faults old new changes query f p h = (asks options d q contents changes query (λ o. o ≡ Err (Limit which)) f p h.0, h.1)
-put_says NoMemory options d q contents faults old new changes query f p h = h
-put_says (BadData line) options d q contents faults old new changes query f p h = absurd h
-put_says Usage options d q contents faults old new changes query f p h = absurd h
-put_says NotYet options d q contents faults old new changes query f p h = absurd h
-put_says (ReadFault name) options d q contents faults old new changes query f p h = absurd h
+-- there was no text
+pub refusal_says : (status : Status) (asked : Result Command Status) (contents : Contents) (faults : Faults) (old new : Option (List ℕ))
+    → Refuses status asked contents faults.before faults.after → new ≡ old → Says status asked contents faults old new
+refusal_says NoMemory asked contents faults old new r e = e
+refusal_says Usage asked contents faults old new r e = (r, e)
+refusal_says (BadData line) asked contents faults old new r e = (r, e)
+refusal_says (Limit which) asked contents faults old new r e = (r, e)
+refusal_says (BadTables line) asked contents faults old new r e = (r, e)
+refusal_says (BadSql why) asked contents faults old new r e = (r, e)
+refusal_says (ReadFault name) asked contents faults old new r e = (r, e)
+refusal_says NotYet asked contents faults old new r e = (r, e)
+refusal_says Done asked contents faults old new r e = absurd r
+refusal_says WriteFault asked contents faults old new r e = absurd r
 
 -- a line that is made may want memory
 pub ends : (status result : Status) (asked : Result Command Status) (contents : Contents) (faults : Faults) (old new : Option (List ℕ))
@@ -104,11 +66,24 @@ ends status result asked contents faults old new s (inl e) = rw e s
 ends (ReadFault name) result asked contents faults old new s (inr e) = rw e.1 s.1
 ends (BadData line) result asked contents faults old new s (inr e) = rw e.1 s.1
 ends (Limit which) result asked contents faults old new s (inr e) = rw e.1 s.1
+ends (BadTables line) result asked contents faults old new s (inr e) = rw e.1 s.1
+ends (BadSql why) result asked contents faults old new s (inr e) = rw e.1 s.1
 ends Done result asked contents faults old new s (inr e) = absurd e.0
 ends Usage result asked contents faults old new s (inr e) = absurd e.0
 ends WriteFault result asked contents faults old new s (inr e) = absurd e.0
 ends NotYet result asked contents faults old new s (inr e) = absurd e.0
 ends NoMemory result asked contents faults old new s (inr e) = absurd e.0
+
+-- what a run says, by the text that was made or why there is none, and by what was put
+pub run_says : {X : Type 0} (items : X → List ℕ) (made : Result X Status) (status result : Status) (asked : Result Command Status) (contents : Contents) (faults : Faults) (old new : Option (List ℕ))
+    → IfOk made (λ x. FitsAsked (items x) asked contents) → IfErr made (λ s. Refuses s asked contents faults.before faults.after)
+    → IfOk made (λ x. Puts status (items x) old new faults.out_before faults.out_after) → IfErr made (λ s. (status ≡ s) × (new ≡ old))
+    → (result ≡ status) ⊎ (NamesSomething status × (result ≡ NoMemory)) → Says result asked contents faults old new
+run_says items (Ok x) status result asked contents faults old new f r p n e =
+    ends status result asked contents faults old new (text_says status (items x) asked contents faults old new f p) e
+run_says items (Err s) status result asked contents faults old new f r p n e =
+    let says : Says s asked contents faults old new = refusal_says s asked contents faults old new r n.1 in
+    ends status result asked contents faults old new (subst (λ (t : Status). Says t asked contents faults old new) (sym n.0) says) e
 
 -- what is owed by a status, for one outcome
 abbrev Owed : Status → Faults → Result Work Status → Type 0
@@ -143,24 +118,33 @@ none_failed faults name contents [] lt r none = absurd r
 none_failed faults name contents (file ∷ files) lt (inl e) none = still faults name file.name lt e none.0
 none_failed faults name contents (file ∷ files) lt (inr r) none = none_failed faults name contents files lt r.1 none.1
 
-refused : (status : Status) (command : Command) (contents : Contents) (faults : Faults) → WhereTold contents command (λ o. o ≡ Err status) → Completes status (Ok command) contents faults
-refused status command contents faults s = λ _ texts t. refusal_owed (outcome command texts) status faults (s texts t)
+-- what holds of one thing that a command asks for holds of all
+of_all : (command : Command) (contents : Contents) (P Q : Result Work Status → Type 0) → AskOnce → WhereTold contents command P → ((o : Result Work Status) → P o → Q o)
+    → (texts : Texts) → Tells contents texts (files_of command) → (o : Result Work Status) → Asks command texts o → Q o
+of_all command contents P Q once h f texts t o a = let x = h texts t in subst Q (once command texts x.0 o x.1 a) (f x.0 x.2)
+
+refused : (status : Status) (command : Command) (contents : Contents) (faults : Faults) → AskOnce → WhereTold contents command (λ o. o ≡ Err status) → Completes status (Ok command) contents faults
+refused status command contents faults once s = λ _. of_all command contents (λ o. o ≡ Err status) (Owed status faults) once s (λ o. refusal_owed o status faults)
 
 -- each status that is not owed has its cause
 pub completes : (status : Status) (asked : Result Command Status) (contents : Contents) (faults : Faults) (old new : Option (List ℕ))
-    → Says status asked contents faults old new → Completes status asked contents faults
-completes Usage asked contents faults old new s = rw s.0 (inl refl)
-completes NoMemory (Err owed) contents faults old new s = inr refl
-completes NoMemory (Ok command) contents faults old new s = λ _ texts t. memory_owed (outcome command texts) faults
-completes Done (Err owed) contents faults old new s = absurd s
-completes Done (Ok command) contents faults old new s = λ _ texts t. done_owed (outcome command texts) (λ work. Fits work old new) faults (s texts t)
-completes NotYet (Err owed) contents faults old new s = inl (sym s.0)
-completes NotYet (Ok command) contents faults old new s = refused NotYet command contents faults s.0
-completes (BadData line) (Err owed) contents faults old new s = inl (sym s.0)
-completes (BadData line) (Ok command) contents faults old new s = refused (BadData line) command contents faults s.0
-completes (Limit which) (Err owed) contents faults old new s = inl (sym s.0)
-completes (Limit which) (Ok command) contents faults old new s = refused (Limit which) command contents faults s.0
-completes WriteFault (Err owed) contents faults old new s = absurd s.0
-completes WriteFault (Ok command) contents faults old new s = λ _ texts t. write_owed (outcome command texts) (λ work. FitsFront work old new) faults (s.0 texts t) s.1
-completes (ReadFault name) (Err owed) contents faults old new s = absurd s.0
-completes (ReadFault name) (Ok command) contents faults old new s = λ none. absurd (none_failed faults name contents (files_of command) s.0.0 s.0.1 none)
+    → AskOnce → Says status asked contents faults old new → Completes status asked contents faults
+completes Usage asked contents faults old new once s = rw s.0 (inl refl)
+completes NoMemory (Err owed) contents faults old new once s = inr refl
+completes NoMemory (Ok command) contents faults old new once s = λ _ texts t o a. memory_owed o faults
+completes Done (Err owed) contents faults old new once s = absurd s
+completes Done (Ok command) contents faults old new once s = λ _. of_all command contents (λ o. IsOkAnd o (λ work. Fits work old new)) (Owed Done faults) once s (λ o h. done_owed o (λ work. Fits work old new) faults h)
+completes WriteFault (Err owed) contents faults old new once s = absurd s.0
+completes WriteFault (Ok command) contents faults old new once s = λ _. of_all command contents (λ o. IsOkAnd o (λ work. FitsFront work old new)) (Owed WriteFault faults) once s.0 (λ o h. write_owed o (λ work. FitsFront work old new) faults h s.1)
+completes (ReadFault name) (Err owed) contents faults old new once s = absurd s.0
+completes (ReadFault name) (Ok command) contents faults old new once s = λ none. absurd (none_failed faults name contents (files_of command) s.0.0 s.0.1 none)
+completes NotYet (Err owed) contents faults old new once s = inl (sym s.0)
+completes NotYet (Ok command) contents faults old new once s = refused NotYet command contents faults once s.0
+completes (BadData line) (Err owed) contents faults old new once s = inl (sym s.0)
+completes (BadData line) (Ok command) contents faults old new once s = refused (BadData line) command contents faults once s.0
+completes (Limit which) (Err owed) contents faults old new once s = inl (sym s.0)
+completes (Limit which) (Ok command) contents faults old new once s = refused (Limit which) command contents faults once s.0
+completes (BadTables line) (Err owed) contents faults old new once s = inl (sym s.0)
+completes (BadTables line) (Ok command) contents faults old new once s = refused (BadTables line) command contents faults once s.0
+completes (BadSql why) (Err owed) contents faults old new once s = inl (sym s.0)
+completes (BadSql why) (Ok command) contents faults old new once s = refused (BadSql why) command contents faults once s.0

@@ -1,10 +1,12 @@
 -- Why a part of a run stopped, for the functions inside the program.
-use Rattle.std.specs.Prelude.{◌≡◌, ℕ, ◌<◌, List, Option, Result, Ok, Err}
+use Rattle.std.specs.Prelude.{◌≡◌, ℕ, ◌<◌, List, ◌++◌, take, Option, Some, IfSome, Result, Err, IsOkAnd}
 use Rattle.store_io.specs.Causes.{Rose}
 use Rattle.run_meaning.specs.declared.status.Status.{Status}
-use Rattle.run_meaning.specs.declared.status.Status.TheVariants.{Done, Usage, BadData, Limit, ReadFault, WriteFault, NotYet, NoMemory}
-use Rattle.run_meaning.specs.Outcome.{Work, judged_work}
-use Rattle.run_meaning.specs.FittingText.{Fits, FitsFront, fitting_text}
+use Rattle.run_meaning.specs.declared.status.Status.TheVariants.{Done, Usage, BadData, Limit, ReadFault, WriteFault, BadTables, BadSql, NotYet, NoMemory}
+use Rattle.run_meaning.specs.declared.command.Command.{Command}
+use Rattle.outcome_meaning.specs.Outcome.{Contents, files_of}
+use Rattle.outcome_meaning.specs.FittingText.{fitting_text}
+use Rattle.outcome_meaning.specs.Causes.{IsReached, AsksFor, IsAskedFor}
 
 -- why a file gave nothing: what it holds is refused, or a read of it failed
 abbrev pub Stops : Status → List ℕ → (refused : Status → Type 0) → (before after : ℕ) → Type 0
@@ -15,35 +17,44 @@ Stops Usage name refused before after = ⊥
 Stops WriteFault name refused before after = ⊥
 Stops (BadData line) name refused before after = refused (BadData line)
 Stops (Limit which) name refused before after = refused (Limit which)
+Stops (BadTables line) name refused before after = refused (BadTables line)
+Stops (BadSql why) name refused before after = refused (BadSql why)
 Stops NotYet name refused before after = refused NotYet
 
--- a refusal of what was read; want of memory is free
-abbrev pub RefusedAs : {X : Type 0} → Status → Result X Status → Type 0
-RefusedAs NoMemory judged = Unit {0}
-RefusedAs (BadData line) judged = judged ≡ Err (BadData line)
-RefusedAs (Limit which) judged = judged ≡ Err (Limit which)
-RefusedAs NotYet judged = judged ≡ Err NotYet
-RefusedAs (ReadFault name) judged = ⊥
-RefusedAs Done judged = ⊥
-RefusedAs Usage judged = ⊥
-RefusedAs WriteFault judged = ⊥
+-- a text that fits what the words and the contents ask for
+pub record FitsAsked (text : List ℕ) (asked : Result Command Status) (contents : Contents) : Type 0 where
+  pub told : AsksFor asked contents (λ work. text ≡ fitting_text work)
 
--- what the putting of an answer says
-abbrev pub Puts : Status → Work → (old new : Option (List ℕ)) → (before after : ℕ) → Type 0
-Puts Done work old new before after = (judged_work work ≡ Ok work) × Fits work old new
-Puts WriteFault work old new before after = (judged_work work ≡ Ok work) × FitsFront work old new × Rose before after
-Puts NoMemory work old new before after = new ≡ old
-Puts (Limit which) work old new before after = (judged_work work ≡ Err (Limit which)) × (new ≡ old)
-Puts (BadData line) work old new before after = ⊥
-Puts Usage work old new before after = ⊥
-Puts NotYet work old new before after = ⊥
-Puts (ReadFault name) work old new before after = ⊥
+-- a name whose reads failed, of a file before which every one was accepted
+abbrev pub FailedRead : List ℕ → Command → Contents → (before after : List ℕ → ℕ) → Type 0
+FailedRead name command contents before after = (before name < after name) × IsReached name contents (files_of command)
+
+-- why there is no text: it is asked for, or a read of a file failed
+abbrev pub Refuses : Status → Result Command Status → Contents → (before after : List ℕ → ℕ) → Type 0
+Refuses NoMemory asked contents before after = Unit {0}
+Refuses (ReadFault name) asked contents before after = IsOkAnd asked (λ command. FailedRead name command contents before after)
+Refuses Done asked contents before after = ⊥
+Refuses WriteFault asked contents before after = ⊥
+Refuses Usage asked contents before after = asked ≡ Err Usage
+Refuses (BadData line) asked contents before after = IsAskedFor (BadData line) asked contents
+Refuses (Limit which) asked contents before after = IsAskedFor (Limit which) asked contents
+Refuses (BadTables line) asked contents before after = IsAskedFor (BadTables line) asked contents
+Refuses (BadSql why) asked contents before after = IsAskedFor (BadSql why) asked contents
+Refuses NotYet asked contents before after = IsAskedFor NotYet asked contents
+
+-- what the putting of a text says
+abbrev pub Puts : Status → List ℕ → (old new : Option (List ℕ)) → (before after : ℕ) → Type 0
+Puts Done text old new before after = IfSome old (λ bytes. new ≡ Some (bytes ++ text))
+Puts WriteFault text old new before after = IfSome old (λ bytes. (count : ℕ) × (new ≡ Some (bytes ++ take count text))) × Rose before after
+Puts status text old new before after = ⊥
 
 -- a status whose line names or counts something
 abbrev pub NamesSomething : Status → Type 0
 NamesSomething (ReadFault name) = Unit {0}
 NamesSomething (BadData line) = Unit {0}
 NamesSomething (Limit which) = Unit {0}
+NamesSomething (BadTables line) = Unit {0}
+NamesSomething (BadSql why) = Unit {0}
 NamesSomething Done = ⊥
 NamesSomething Usage = ⊥
 NamesSomething WriteFault = ⊥

@@ -2,8 +2,9 @@
 
 ghost use Rattle.std.specs.Prelude.{◌≡◌, ◌≤◌, ◌<◌, IfOk, IfErr, IfSome, List, ℕ, Ok, Err, length};
 ghost use Rattle.store_io.specs.Reading.{CountsFaults};
-ghost use Rattle.run_meaning.specs.Outcome.{judged_data, judged_query};
-ghost use Rattle.db2rdf_top.specs.Stops.{Stops, RefusedAs};
+ghost use Rattle.outcome_meaning.specs.Outcome.{judged_data, judged_query};
+ghost use Rattle.outcome_meaning.specs.Refusal.{RefusedAs};
+ghost use Rattle.db2rdf_top.specs.Stops.{Stops};
 
 use line_meaning::Change;
 use nt_lines::{LineRefusal, read_changes};
@@ -13,8 +14,8 @@ use run_meaning::{Status, Which};
 use std::alloc::Global;
 use store_io::{Shelf, ShelfError, Taken};
 
-/// The most bytes of a data file.
-const MOST_DATA: usize = 67_108_864;
+/// The most bytes of a data file, or of one of tables and SQL.
+const MOST_FILE: usize = 67_108_864;
 
 /// The most bytes of a query file.
 const MOST_QUERY: usize = 65_536;
@@ -47,7 +48,7 @@ fn read_file<F: Shelf>(
 fn judge_data(alloc: Global, text: &[u8]) -> Result<Vec<Change>, Status>
     requires { length text.now ≤ 67108864 }
     ensures ok { IfOk result (λ changes. judged_data text.now ≡ Ok changes.items) }
-    ensures err { IfErr result (λ status. RefusedAs status (judged_data text.now)) }
+    ensures err { IfErr result (λ status. RefusedAs status (λ s. judged_data text.now ≡ Err s)) }
 {
     match read_changes(alloc, text) {
         Ok(changes) => Ok(changes),
@@ -61,7 +62,7 @@ fn judge_data(alloc: Global, text: &[u8]) -> Result<Vec<Change>, Status>
 fn judge_query(alloc: Global, text: &[u8]) -> Result<PatternQuery, Status>
     requires { length text.now ≤ 65536 }
     ensures ok { IfOk result (λ query. judged_query text.now ≡ Ok query) }
-    ensures err { IfErr result (λ status. RefusedAs status (judged_query text.now)) }
+    ensures err { IfErr result (λ status. RefusedAs status (λ s. judged_query text.now ≡ Err s)) }
 {
     match read_pattern_query(alloc, text)? {
         Some(query) => Ok(query),
@@ -80,7 +81,7 @@ pub(crate) fn read_data<F: Shelf>(
     ensures content { (other : List ℕ) → F.content shelf.new other ≡ F.content shelf.old other }
     ensures counts { CountsFaults (F.faults shelf.old) (F.faults shelf.new) name.now }
 {
-    match read_file(alloc, shelf, name, MOST_DATA, Which::File) {
+    match read_file(alloc, shelf, name, MOST_FILE, Which::File) {
         Ok(text) => judge_data(alloc, &text),
         Err(status) => Err(status),
     }
@@ -101,4 +102,18 @@ pub(crate) fn read_query<F: Shelf>(
         Ok(text) => judge_query(alloc, &text),
         Err(status) => Err(status),
     }
+}
+
+/// The text of a file of tables and SQL.
+pub(crate) fn read_tables_and_sql<F: Shelf>(
+    alloc: Global,
+    shelf: &mut F,
+    name: &str,
+) -> Result<Vec<u8>, Status>
+    ensures ok { IfOk result (λ text. (length text.items ≤ 67108864) × IfSome (F.content shelf.old name.now) (λ d. text.items ≡ d)) }
+    ensures err { IfErr result (λ status. Stops status name.now (λ s. (s ≡ Status.Limit Which.File) × IfSome (F.content shelf.old name.now) (λ d. 67108864 < length d)) (F.faults shelf.old name.now) (F.faults shelf.new name.now)) }
+    ensures content { (other : List ℕ) → F.content shelf.new other ≡ F.content shelf.old other }
+    ensures counts { CountsFaults (F.faults shelf.old) (F.faults shelf.new) name.now }
+{
+    read_file(alloc, shelf, name, MOST_FILE, Which::File)
 }

@@ -5,5 +5,6 @@ mod files;
 mod messages;
 mod program;
 
+pub use messages::tell;
 pub use program::run;
 pub use run_meaning::Status;

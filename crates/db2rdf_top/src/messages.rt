@@ -1,13 +1,13 @@
 //! The lines on the error output.
 
-ghost use Rattle.std.specs.Prelude.{◌≡◌, IfOk, ◌⊎◌};
-ghost use Rattle.run_meaning.specs.Codes.{line_of, name_of};
-ghost use Rattle.run_meaning.specs.Causes.{Told};
+ghost use Rattle.std.specs.Prelude.{◌≡◌, ◌++◌, ◌∷◌, [], IfOk, OnOk, ◌⊎◌, codes, decimal};
+ghost use Rattle.run_meaning.specs.Codes.{line_of, name_of, text_of_fault, in_select};
+ghost use Rattle.outcome_meaning.specs.Causes.{Told};
 ghost use Rattle.db2rdf_top.specs.Stops.{NamesSomething};
 
 use itoa::Buffer;
 use rdf_terms::Text;
-use run_meaning::{Status, Which};
+use run_meaning::{SqlFault, Status, Which};
 use std::alloc::{AllocError, Global};
 use store_io::Sink;
 
@@ -26,13 +26,76 @@ fn read_fault_line(alloc: Global, name: &Text) -> Result<Vec<u8>, AllocError>
     Ok(text)
 }
 
+// A number in decimal.
+fn write_number(number: u64, text: &mut Vec<u8>) -> Result<(), AllocError>
+    ensures { OnOk result (text.new.items ≡ text.old.items ++ decimal number) }
+{
+    let mut buffer = Buffer::new();
+    text.extend_from_slice(buffer.format(number).as_bytes())
+}
+
+// A line that ends with a number.
+fn numbered_line(alloc: Global, front: &[u8], number: u64) -> Result<Vec<u8>, AllocError>
+    ensures { IfOk result (λ text. text.items ≡ front.now ++ (decimal number ++ 10 ∷ [])) }
+{
+    let mut text = Vec::from_slice(alloc, front)?;
+    write_number(number, &mut text)?;
+    text.push(b'\n')?;
+    Ok(text)
+}
+
 // The line of a bad data line.
 fn bad_data_line(alloc: Global, line: u64) -> Result<Vec<u8>, AllocError>
     ensures { IfOk result (λ text. text.items ≡ line_of (Status.BadData line)) }
 {
-    let mut buffer = Buffer::new();
-    let mut text = Vec::from_slice(alloc, b"db2rdf: bad data at line ")?;
-    text.extend_from_slice(buffer.format(line).as_bytes())?;
+    numbered_line(alloc, b"db2rdf: bad data at line ", line)
+}
+
+// The line of a bad line of tables.
+fn bad_tables_line(alloc: Global, line: u64) -> Result<Vec<u8>, AllocError>
+    ensures { IfOk result (λ text. text.items ≡ line_of (Status.BadTables line)) }
+{
+    numbered_line(alloc, b"db2rdf: bad tables at line ", line)
+}
+
+fn write_select(select: u64, text: &mut Vec<u8>) -> Result<(), AllocError>
+    ensures { OnOk result (text.new.items ≡ text.old.items ++ (codes " in select " ++ decimal select)) }
+{
+    text.extend_from_slice(b" in select ")?;
+    write_number(select, text)
+}
+
+// A word for a fault of binding, and its SELECT.
+fn write_in_select(word: &str, select: u64, text: &mut Vec<u8>) -> Result<(), AllocError>
+    ensures { OnOk result (text.new.items ≡ text.old.items ++ in_select word.now select) }
+{
+    text.extend_from_slice(word.as_bytes())?;
+    write_select(select, text)
+}
+
+fn write_fault(why: SqlFault, text: &mut Vec<u8>) -> Result<(), AllocError>
+    ensures { OnOk result (text.new.items ≡ text.old.items ++ text_of_fault why) }
+{
+    match why {
+        SqlFault::Syntax { at } => {
+            text.extend_from_slice(b"syntax at ")?;
+            write_number(at as u64, text)
+        }
+        SqlFault::Deep => text.extend_from_slice(b"too deep"),
+        SqlFault::NoTable { select } => write_in_select("no table", select, text),
+        SqlFault::NoColumn { select } => write_in_select("no column", select, text),
+        SqlFault::Twice { select } => write_in_select("twice", select, text),
+        SqlFault::KindClash { select } => write_in_select("kind clash", select, text),
+        SqlFault::NotTruth { select } => write_in_select("not truth", select, text),
+    }
+}
+
+// The line of SQL that isn't run.
+fn bad_sql_line(alloc: Global, why: SqlFault) -> Result<Vec<u8>, AllocError>
+    ensures { IfOk result (λ text. text.items ≡ line_of (Status.BadSql why)) }
+{
+    let mut text = Vec::from_slice(alloc, b"db2rdf: bad sql: ")?;
+    write_fault(why, &mut text)?;
     text.push(b'\n')?;
     Ok(text)
 }
@@ -87,7 +150,7 @@ fn put_line<E: Sink>(line: Result<Vec<u8>, AllocError>, status: Status, err: &mu
 
 /// Puts the line of a status other than Done, by one put; where a line with a name finds no memory,
 /// the answer is NoMemory. A failed put changes no status.
-pub(crate) fn tell<E: Sink>(alloc: Global, status: Status, err: &mut E) -> Status
+pub fn tell<E: Sink>(alloc: Global, status: Status, err: &mut E) -> Status
     ensures status { (result ≡ status) ⊎ (NamesSomething status × (result ≡ Status.NoMemory)) }
     ensures done { result ≡ Status.Done → E.written err.new ≡ E.written err.old }
     ensures told { (result ≡ Status.Done → ⊥) → Told result (E.written err.old) (E.written err.new) (E.faults err.old) (E.faults err.new) }
@@ -110,6 +173,16 @@ pub(crate) fn tell<E: Sink>(alloc: Global, status: Status, err: &mut E) -> Statu
                 Status::ReadFault { name },
                 err,
             )
+        }
+        Status::BadTables { line } => {
+            put_line(
+                bad_tables_line(alloc, line),
+                Status::BadTables { line },
+                err,
+            )
+        }
+        Status::BadSql { why } => {
+            put_line(bad_sql_line(alloc, why), Status::BadSql { why }, err)
         }
         Status::WriteFault => {
             let _ = err.put(b"db2rdf: cannot write\n");

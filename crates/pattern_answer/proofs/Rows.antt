@@ -30,12 +30,11 @@ use Rattle.query_meaning.specs.Leaf.{leaf, matches, bound, instance_is}
 use Rattle.query_meaning.specs.Answer.{Row, row_of, row_order, past, all_keys, ordered_answer}
 use Rattle.algebra_laws.specs.OrderedAnswer.{order-same}
 use Rattle.algebra_laws.specs.OneLeaf.{leaf_one}
-use Rattle.run_meaning.specs.FittingText.{numbers_from, all_shown, fitting_text}
+use Rattle.pattern_query.specs.Shown.{numbers_from, all_shown, pattern_answer_text}
 use Rattle.pattern_answer.specs.Rows.{is_match, row_at, plain_order, sorted_matches, plain_answer_text}
 use Rattle.plain_triples.specs.PresentLaws.{present_distinct}
 use Rattle.bags.specs.Bag.{SameBag}
 use Rattle.bags.specs.BagLaws.{same-refl, same-sym, same-trans, same-flat_map}
-use Rattle.run_meaning.specs.Outcome.{answering}
 
 -- what a stable sort by a closure gives, where each call compares by this order
 pub sorted_by_calls : {X F : Type 0} {g : Mut F (Bor X × (Bor X × Unit {0})) Ordering} {f : F} (cmp : X → X → Ordering) → IsTotalOrder cmp → (xs ys : List X)
@@ -114,5 +113,5 @@ number_pushed vs all n count lt e = append_assoc vs (n ∷ []) (numbers_from (n 
 
 -- over what is present, the text is the one that fits
 pub answer_fits : (q : NamedPattern) (kept : List RdfTriple) (text : List ℕ) → text ≡ plain_answer_text q kept → pattern_in_width q.pattern ≡ true
-    → (cs : List Change) → SameBag kept (present cs) → text ≡ fitting_text (answering cs q)
+    → (cs : List Change) → SameBag kept (present cs) → text ≡ pattern_answer_text q (present cs)
 answer_fits q kept text is w cs same = is ∙ ap (answer_text q.names) (answer_is q.pattern (length q.names) cs kept same w)

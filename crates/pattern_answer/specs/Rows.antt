@@ -10,7 +10,7 @@ use Rattle.query_meaning.specs.Leaf.{bound, instance_is}
 use Rattle.query_meaning.specs.Answer.{Row}
 use Rattle.query_meaning.specs.AnswerText.{answer_text}
 use Rattle.pattern_query.specs.Places.{NamedPattern}
-use Rattle.run_meaning.specs.FittingText.{numbers_from}
+use Rattle.pattern_query.specs.Shown.{numbers_from}
 
 -- the triple is an instance of the pattern
 abbrev pub is_match : Pattern → RdfTriple → Bool

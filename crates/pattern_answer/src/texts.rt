@@ -6,8 +6,7 @@ ghost use Rattle.query_meaning.specs.AnswerText.{tabbed, row_text, header_text, 
 ghost use Rattle.bags.specs.Bag.{SameBag};
 ghost use Rattle.line_meaning.specs.declared.change.Change.{Change};
 ghost use Rattle.line_meaning.specs.Present.{present};
-ghost use Rattle.run_meaning.specs.Outcome.{answering};
-ghost use Rattle.run_meaning.specs.FittingText.{numbers_from, fitting_text};
+ghost use Rattle.pattern_query.specs.Shown.{numbers_from, pattern_answer_text};
 ghost use Rattle.pattern_answer.specs.Rows.{row_at, plain_answer_text};
 
 use crate::lent::LentTriple;
@@ -133,7 +132,7 @@ pub fn answer(
 ) -> Result<Vec<u8>, AllocError>
     ensures rows { IfOk result (λ text. text.items ≡ plain_answer_text query.now triples.now.triples) }
     // The text is the one that fits, whichever changes left these triples.
-    ensures fits { IfOk result (λ text. (changes : List Change) → SameBag triples.now.triples (present changes) → text.items ≡ fitting_text (answering changes query.now)) }
+    ensures fits { IfOk result (λ text. (changes : List Change) → SameBag triples.now.triples (present changes) → text.items ≡ pattern_answer_text query.now (present changes)) }
 {
     let shown = variables_below(alloc, query.names.len())?;
     let found = sorted_matches(alloc, triples, &query.pattern, &shown)?;

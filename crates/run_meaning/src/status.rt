@@ -4,6 +4,7 @@ ghost use Rattle.std.specs.Prelude.{◌≡◌};
 ghost use Rattle.run_meaning.specs.Codes.{code_of};
 ghost use Rattle.run_meaning.specs.declared.status.Status.TheVariants.{NoMemory};
 
+use crate::fault::SqlFault;
 use crate::which::Which;
 use rdf_meaning::Text;
 use std::alloc::{AllocError, AllocFailed};
@@ -23,6 +24,10 @@ pub enum Status {
     ReadFault { name: Text },
     /// The output took a front of the text alone.
     WriteFault,
+    /// This line is the first one of the tables of a file that is out of the grammar.
+    BadTables { line: u64 },
+    /// The SQL part of a file is out of the grammar, too deep, or doesn't bind.
+    BadSql { why: SqlFault },
     /// What was asked for isn't built yet.
     NotYet,
     NoMemory,
@@ -40,6 +45,8 @@ impl Status {
             Status::Limit { .. } => 5,
             Status::ReadFault { .. } => 6,
             Status::WriteFault => 7,
+            Status::BadTables { .. } => 8,
+            Status::BadSql { .. } => 9,
             Status::NotYet => 20,
             Status::NoMemory => 70,
         }

@@ -1,5 +1,5 @@
 use Rattle.std.proofs.Common.{◌≡◌, ◌++◌, ◌-◌}
-use Rattle.run_meaning.specs.FittingText.{numbers_from}
+use Rattle.pattern_query.specs.Shown.{numbers_from}
 use Rattle.pattern_answer.proofs.texts.variables_below.Given as goal
 
 abbrev pub invariant-loop-number : goal.invariant-loop-number

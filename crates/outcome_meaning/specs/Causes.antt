@@ -1,13 +1,13 @@
 -- Which status comes when.
-use Rattle.std.specs.Prelude.{◌≡◌, ℕ, ◌<◌, List, [], ◌∷◌, ◌++◌, take, Option, Some, Result, Ok, Err, IfSome, IsTrue, IsOkAnd, MatchResult, ◌⊎◌}
+use Rattle.std.specs.Prelude.{◌≡◌, ℕ, ◌<◌, List, [], ◌∷◌, ◌++◌, take, Option, Some, Result, Ok, Err, IfSome, IsOkAnd, MatchResult, ◌⊎◌}
 use Rattle.std.specs.List.{AllByRecursion}
 use Rattle.store_io.specs.Causes.{Rose}
 use Rattle.run_meaning.specs.declared.status.Status.{Status}
-use Rattle.run_meaning.specs.declared.status.Status.TheVariants.{Done, Usage, BadData, Limit, ReadFault, WriteFault, NotYet, NoMemory}
+use Rattle.run_meaning.specs.declared.status.Status.TheVariants.{Done, Usage, BadData, Limit, ReadFault, WriteFault, BadTables, BadSql, NotYet, NoMemory}
 use Rattle.run_meaning.specs.Codes.{line_of}
 use Rattle.run_meaning.specs.declared.command.Command.{Command}
-use Rattle.run_meaning.specs.Outcome.{Contents, Texts, Work, NamedFile, files_of, outcome}
-use Rattle.run_meaning.specs.FittingText.{Fits, FitsFront}
+use Rattle.outcome_meaning.specs.Outcome.{Contents, Texts, Work, NamedFile, files_of, Accepts, Asks}
+use Rattle.outcome_meaning.specs.FittingText.{Fits, FitsFront}
 
 -- faults of names, before a call and after it, and those of the output
 pub record Faults : Type 0 where
@@ -20,9 +20,13 @@ pub record Faults : Type 0 where
 abbrev pub Tells : Contents → Texts → List NamedFile → Type 0
 Tells contents texts files = AllByRecursion (λ (file : NamedFile). contents file.name ≡ Some (texts file.name)) files
 
--- where each file of the command is told, this holds of the outcome
+-- where each file of the command is told, this holds of what the command asks for
 abbrev pub WhereTold : Contents → Command → (Result Work Status → Type 0) → Type 0
-WhereTold contents command P = (texts : Texts) → Tells contents texts (files_of command) → P (outcome command texts)
+WhereTold contents command P = (texts : Texts) → Tells contents texts (files_of command) → (o : Result Work Status) × Asks command texts o × P o
+
+-- where each file of the command is told, this holds of whatever the command asks for
+abbrev pub ForAll : Contents → Command → (Result Work Status → Type 0) → Type 0
+ForAll contents command P = (texts : Texts) → Tells contents texts (files_of command) → (o : Result Work Status) → Asks command texts o → P o
 
 -- this holds of the work that the words and the contents ask for
 abbrev pub AsksFor : Result Command Status → Contents → (Work → Type 0) → Type 0
@@ -35,7 +39,7 @@ IsAskedFor status asked contents = MatchResult asked (λ command. WhereTold cont
 -- the name is that of one of the files, and every file before it was accepted
 abbrev pub IsReached : List ℕ → Contents → List NamedFile → Type 0
 IsReached name contents [] = ⊥
-IsReached name contents (file ∷ files) = (name ≡ file.name) ⊎ (IfSome (contents file.name) (λ text. IsTrue (file.accepts text)) × IsReached name contents files)
+IsReached name contents (file ∷ files) = (name ≡ file.name) ⊎ (IfSome (contents file.name) (Accepts file.held) × IsReached name contents files)
 
 -- a file that the words name could not be read, and every file before it was accepted
 abbrev pub CouldNotRead : List ℕ → Command → Contents → Faults → Type 0
@@ -50,6 +54,8 @@ Says NoMemory asked contents faults old new = new ≡ old
 Says Usage asked contents faults old new = (asked ≡ Err Usage) × (new ≡ old)
 Says (BadData line) asked contents faults old new = IsAskedFor (BadData line) asked contents × (new ≡ old)
 Says (Limit which) asked contents faults old new = IsAskedFor (Limit which) asked contents × (new ≡ old)
+Says (BadTables line) asked contents faults old new = IsAskedFor (BadTables line) asked contents × (new ≡ old)
+Says (BadSql why) asked contents faults old new = IsAskedFor (BadSql why) asked contents × (new ≡ old)
 Says NotYet asked contents faults old new = IsAskedFor NotYet asked contents × (new ≡ old)
 
 -- no read of a file that the words name failed
@@ -60,7 +66,7 @@ NoReadFailed files faults = AllByRecursion (λ (file : NamedFile). faults.after 
 abbrev pub Completes : Status → Result Command Status → Contents → Faults → Type 0
 Completes status (Err owed) contents faults = (status ≡ owed) ⊎ (status ≡ NoMemory)
 Completes status (Ok command) contents faults =
-    NoReadFailed (files_of command) faults → WhereTold contents command (λ o. MatchResult o
+    NoReadFailed (files_of command) faults → ForAll contents command (λ o. MatchResult o
     (λ work. (Rose faults.out_before faults.out_after → ⊥) → (status ≡ Done) ⊎ (status ≡ NoMemory))
     (λ owed. (status ≡ owed) ⊎ (status ≡ NoMemory)))
 

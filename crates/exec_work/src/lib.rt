@@ -1,0 +1,7 @@
+//! A file of tables and SQL, read and run.
+#![tactic(auto)]
+
+mod parts;
+mod work;
+
+pub use work::script_text;

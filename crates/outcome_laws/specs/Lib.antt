@@ -1,0 +1,2 @@
+pub mod BreakPlaces
+pub mod OneOutcome

@@ -1,0 +1,14 @@
+//! Laws of what commands ask for.
+#![tactic(auto)]
+
+ghost use Rattle.outcome_laws.specs.OneOutcome.{AskOnce};
+
+use table_text::texts_have_one_outcome;
+
+/// Each command over texts asks for one thing at most.
+#[tactic(auto, using(crate::specs::OneOutcome::ask_once))]
+pub fn commands_ask_once()
+    ensures { AskOnce }
+{
+    texts_have_one_outcome();
+}

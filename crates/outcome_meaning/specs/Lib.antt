@@ -1,0 +1,4 @@
+pub mod Outcome
+pub mod FittingText
+pub mod Causes
+pub mod Refusal

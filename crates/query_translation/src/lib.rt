@@ -1,0 +1,9 @@
+//! The translation of queries from what is written to the algebra.
+#![tactic(auto)]
+
+mod elements;
+mod gathering;
+mod translation;
+mod unions;
+
+pub use translation::translate;

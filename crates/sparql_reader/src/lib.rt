@@ -1,0 +1,8 @@
+//! Queries of the fragment, read from their text.
+#![tactic(auto)]
+
+mod reading;
+
+pub use fragment_meaning::Feature;
+pub use fragment_queries::{QueryLimit, QueryRefusal};
+pub use reading::read_syntax;

@@ -1,14 +1,11 @@
 //! Answers queries over files of triples.
 #![tactic(auto)]
 
-use db2rdf_top::{Status, run};
+use db2rdf_top::{Status, run, tell};
 use std::env;
 use std::io::ErrorKind;
 use std::process::ExitCode;
-use store_io::{RealShelf, RealSink, Sink};
-
-const USAGE: &[u8] =
-    b"db2rdf: usage: db2rdf query|show|plan [options] DATA QUERY; stats [options] DATA; exec [--pieces N] FILE; drill [options] N SEED\n";
+use store_io::{RealShelf, RealSink};
 
 // The words after the program's name.
 fn words(rt: &HostRuntime) -> Result<Vec<String>, Status> {
@@ -32,13 +29,7 @@ fn main(rt: HostRuntime) -> ExitCode {
     let mut err = RealSink::error(&rt);
     let status = match words(&rt) {
         Ok(words) => run(alloc, &words, &mut shelf, &mut out, &mut err),
-        Err(status) => {
-            let _ = match &status {
-                Status::NoMemory => err.put(b"db2rdf: no memory\n"),
-                _ => err.put(USAGE),
-            };
-            status
-        }
+        Err(status) => tell(alloc, status, &mut err),
     };
     ExitCode::from(status.code())
 }

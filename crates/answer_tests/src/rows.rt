@@ -5,6 +5,8 @@ use crate::answered::{Refused, answered};
 const COUNTED: &str =
     "<u:a> <u:n> \"3\"^^<http://www.w3.org/2001/XMLSchema#integer> .\n<u:a> <u:n> \"1\"^^<http://www.w3.org/2001/XMLSchema#integer> .\n<u:b> <u:n> \"2\"^^<http://www.w3.org/2001/XMLSchema#integer> .\n";
 
+const ONE: &str = "<u:a> <u:p> <u:b> .\n";
+
 const THREE: &str = "<u:a> <u:p> \"1\" .\n<u:a> <u:p> \"2\" .\n<u:a> <u:p> \"3\" .\n";
 
 // The first of equal rows stays, though a key that isn't shown tells them apart.
@@ -26,14 +28,14 @@ fn a_key_goes_down(rt: HostRuntime) -> Result<(), Refused> {
 
 #[test]
 fn no_row_is_asked_for(rt: HostRuntime) -> Result<(), Refused> {
-    let text = answered(rt.alloc(), THREE, "SELECT * { ?s <u:p> ?o } LIMIT 0")?;
+    let text = answered(rt.alloc(), ONE, "SELECT * WHERE { ?s <u:p> ?o } LIMIT 0")?;
     assert_eq!(rt; text.as_slice(), "?s\t?o\n".as_bytes());
     Ok(())
 }
 
 #[test]
 fn more_rows_are_dropped_than_there_are(rt: HostRuntime) -> Result<(), Refused> {
-    let text = answered(rt.alloc(), THREE, "SELECT * { ?s <u:p> ?o } OFFSET 5")?;
+    let text = answered(rt.alloc(), ONE, "SELECT * WHERE { ?s <u:p> ?o } OFFSET 5")?;
     assert_eq!(rt; text.as_slice(), "?s\t?o\n".as_bytes());
     Ok(())
 }

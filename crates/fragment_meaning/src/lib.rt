@@ -1,4 +1,4 @@
-//! What a query of the fragment is: its tokens, its grammar, its limits and its translation.
+//! What a query of the fragment is made of: its tokens and the cut of a text into them, and its translation.
 #![tactic(auto)]
 
 mod gathered;

@@ -64,6 +64,6 @@ pub enum Word {
     Offset,
     /// A word of something that is left out.
     LeftOut(Feature),
-    /// A word that SPARQL doesn't have.
+    /// Any other word: no query of the fragment has it.
     Unknown,
 }

@@ -1,5 +1,4 @@
-//! What the hashed layout means: candidate columns, the rows and lists of a side, its steps, and the
-//! tables that stand for triples.
+//! What the hashed layout means: candidate columns, the rows and lists of a side, and its steps.
 #![tactic(auto)]
 
 mod value;

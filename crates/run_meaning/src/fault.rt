@@ -9,10 +9,11 @@ pub enum SqlFault {
     NoTable { select: u64 },
     /// An alias of this SELECT isn't seen yet, or has no such column.
     NoColumn { select: u64 },
-    /// A name stands twice where it is to stand once.
+    /// An alias or an item's name stands twice in this SELECT, or the step that begins with it has the name of a table or of an earlier step.
     Twice { select: u64 },
-    /// Unlike kinds where one is wanted.
+    /// Unlike kinds under `=`, `<` or COALESCE or as the answers of a CASE, or a union whose SELECT differs from the first one in the number,
+    /// names or kinds of its columns.
     KindClash { select: u64 },
-    /// A condition is no truth.
+    /// The expression of an ON or a WHERE, the test of a branch of CASE, or a part of AND, OR or NOT is no truth.
     NotTruth { select: u64 },
 }

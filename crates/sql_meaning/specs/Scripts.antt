@@ -185,6 +185,6 @@ script_form s = all_of step_form s.steps && body_form s.last
 abbrev pub most_levels : ℕ
 most_levels = 1024
 
--- a script that has a text
+-- a script that has a text: of the forms of the grammar, and of at most 1,024 levels
 abbrev pub is_writable : Script → Bool
 is_writable s = nat_le (depth_of s) most_levels && script_form s

@@ -13,8 +13,8 @@ pub record Spells (bs : List ℕ) (s : Script) : Type 0 where
   pub cut : IsCut bs tokens
   pub reads : Reads full (call WholeScript) tokens (Made (a_script s)) []
 
--- Some of the tokens in front begin a script, but none whose expressions stand inside fewer than 1,024 others:
--- the last of them begins an expression that stands inside 1,024, or a deeper one.
+-- The tokens before `behind` begin a script, but no script whose expressions all stand inside fewer than 1,024 others:
+-- one of them begins an expression that stands inside 1,024 others or more.
 pub record IsDeep (tokens : List Placed) : Type 0 where
   pub behind : List Placed
   pub begins : Front full (call WholeScript) tokens behind

@@ -7,9 +7,10 @@ pub enum FaultKind {
     NoColumn,
     /// An alias or an item's name stands twice, or a step has the name of a table or of an earlier step.
     Twice,
-    /// Unlike kinds where one is wanted.
+    /// Unlike kinds under `=`, `<` or COALESCE or as the answers of a CASE, or a union whose SELECT differs from the first one in the number,
+    /// names or kinds of its columns.
     KindClash,
-    /// A condition, or a part of AND, OR or NOT, is no truth.
+    /// The expression of an ON or a WHERE, the test of a branch of CASE, or a part of AND, OR or NOT is no truth.
     NotTruth,
 }
 

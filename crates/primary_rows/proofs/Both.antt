@@ -1,5 +1,5 @@
 -- A side behind another.
-use Rattle.std.proofs.Common.{◌≡◌, ◌+◌, ◌≤◌, ◌^◌, ℕ, List, ap, sym, subst, arith}
+use Rattle.std.proofs.Common.{◌≡◌, ◌+◌, ◌≤◌, ◌^◌, ℕ, List, subst, arith}
 use Rattle.std.specs.List.{AllByRecursion}
 use Rattle.layout_meaning.specs.Side.{Item, SideState}
 use Rattle.layout_meaning.specs.Sound.{IsSound, IsSoundList, KeepsTo}

@@ -6,3 +6,4 @@ pub mod Sides
 pub mod Viewed
 pub mod Moved
 pub mod Both
+pub mod Among

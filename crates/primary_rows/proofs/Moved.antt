@@ -1,6 +1,6 @@
 -- Pairs, rows and counts that are moved.
-use Rattle.std.proofs.Common.{◌≡◌, ◌<◌, ◌≤◌, ◌+◌, ◌==◌, ℕ, ℤ, zero, suc, pos, negsuc, nat_eq, ◌&&◌, Bool, true, false, if◌then◌else◌, List, [], ◌∷◌, ◌++◌, length, drop, get_or, map, Option, Some, None, IsSome, IsTrue, Less, refl, sym, ap, ◌∙◌, arith, subst}
-use Rattle.std.specs.List.{list_all, flat_map, AllByRecursion}
+use Rattle.std.proofs.Common.{◌≡◌, ◌<◌, ◌≤◌, ◌+◌, ◌==◌, ℕ, zero, suc, Bool, true, false, if◌then◌else◌, List, [], ◌∷◌, ◌++◌, length, get_or, Option, Some, None, IsSome, IsTrue, Less, refl, sym, ap, ◌∙◌, arith, subst}
+use Rattle.std.specs.List.{list_all, AllByRecursion}
 use Rattle.std.specs.List.Sorted.{IsStrictlySortedBy}
 use Rattle.std.specs.Ordering.{nat_cmp}
 use Rattle.std.specs.BTreeMap.{is_at, insert_entry}
@@ -8,9 +8,8 @@ use Rattle.std.specs.Map.{lookup, keys_of}
 use Rattle.std.specs.Cmp.{first_so, second_so}
 use Rattle.std.proofs.lemmas.List.{get_or_default}
 use Rattle.bags.specs.Bag.{total}
-use Rattle.layout_meaning.specs.Side.{Row, Rows, Entities, ValueLists, or_empty, elements_of}
-use Rattle.layout_meaning.specs.Side as layout
-use Rattle.layout_meaning.specs.Sound.{IsSoundList, one_if, has_pred}
+use Rattle.layout_meaning.specs.Side.{Rows, Entities, ValueLists, or_empty, elements_of}
+use Rattle.layout_meaning.specs.Sound.{IsSoundList, has_pred}
 use Rattle.layout_meaning.specs.Rows.{later, row_total}
 use Rattle.layout_meaning.proofs.Sums.{total-append}
 use Rattle.layout_meaning.specs.Lists.{ListsOf}
@@ -19,8 +18,8 @@ use Rattle.bulk_meaning.proofs.Turns.{turn-same, turn-length}
 use Rattle.bulk_meaning.proofs.Sides.{has-rows, count-rows}
 use Rattle.bulk_meaning.proofs.Going.{Going, going-next, entry-last, above-first, above-next, sorted-next}
 use Rattle.primary_rows.specs.declared.cells.Pair as cells
-use Rattle.primary_rows.specs.Cells.{pair_of, fits}
-use Rattle.primary_rows.specs.Counted.{or_zero, count_in, ArePositive, spill_total, AreCounted}
+use Rattle.primary_rows.specs.Cells.{fits}
+use Rattle.primary_rows.specs.Counted.{count_in, ArePositive, spill_total, AreCounted}
 
 pub same_place : (xs : List ℕ) (i : ℕ) → i < length xs → get_or xs i 0 ≡ get_or xs i (get_or xs i 0)
 same_place xs i l = get_or_default xs i 0 (get_or xs i 0) l

@@ -4,3 +4,4 @@ pub mod Counted
 pub mod Kept
 pub mod Answers
 pub mod Views
+pub mod Held

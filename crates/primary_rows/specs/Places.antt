@@ -1,5 +1,5 @@
 -- Where a new pair comes among the rows of its entity.
-use Rattle.std.specs.Prelude.{ℕ, ◌==◌, nat_lt, length, Option, None, Bool, true, false, not, is_some, if◌then◌else◌, List, [], ◌∷◌}
+use Rattle.std.specs.Prelude.{ℕ, ◌==◌, nat_lt, length, None, Bool, true, false, not, is_some, if◌then◌else◌, List, [], ◌∷◌}
 use Rattle.layout_meaning.specs.Side.{Row, Rows, first_free, write}
 use Rattle.bags.specs.Bag.{total}
 use Rattle.layout_meaning.specs.Sound.{one_if, has_pred}

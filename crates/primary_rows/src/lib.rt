@@ -7,6 +7,7 @@ mod counts;
 mod rows;
 mod side;
 mod table;
+mod values;
 mod views;
 
 pub use cells::Pair;

@@ -13,7 +13,7 @@ ghost use Rattle.layout_meaning.specs.Side.{items, with_rows, rows_of, place_new
 ghost use Rattle.layout_meaning.specs.Lists.{with_list, with_value, without_value, list_id};
 ghost use Rattle.layout_meaning.specs.Columns.{candidates_of};
 ghost use Rattle.layout_meaning.specs.Sound.{IsSound};
-ghost use Rattle.layout_meaning.specs.Rows.{numbered_rows, IsCountOf, is_spilled, row_total, placed_in, taken_from, KeepsToNames, name_in};
+ghost use Rattle.layout_meaning.specs.Rows.{numbered_rows, IsCountOf, is_spilled, items_of, row_total, placed_in, taken_from, KeepsToNames, name_in};
 ghost use Rattle.value_lists.specs.Answers.{put_of, take_out_of, HasNumber};
 ghost use Rattle.primary_rows.specs.Answers.{took_of};
 ghost use Rattle.bulk_meaning.specs.Appended.{appended_side, IsAbove};
@@ -258,6 +258,15 @@ impl Side {
         ensures { IsCountOf (λ p. is_spilled p self.now.state.entities) result }
     {
         self.table.spilled_count()
+    }
+
+    /// How many values an entity holds under all its predicates, each element of a list counted.
+    pub fn values_of(&self, entity: u32) -> u64
+        ensures { result ≡ total (λ x. 1) (items_of self.now.state entity) }
+    {
+        // That all values together have a count is told by a call.
+        let _all = self.item_count();
+        self.table.values_of(&self.lists, entity)
     }
 
     /// How many values all entities hold together, each element of a list counted.

@@ -1,6 +1,6 @@
 //! The rows of all entities, with what is counted of them.
 
-ghost use Rattle.std.specs.Prelude.{◌≡◌, ◌≤◌, ◌<◌, ◌+◌, ◌-◌, ◌==◌, ◌&&◌, ◌++◌, ℕ, [], length, map, IfOk, nat_eq, nat_lt, not, is_some, if◌then◌else◌, true, false, IsTrue, IsSome, IfSome, OnOk, OnErr, None, Some};
+ghost use Rattle.std.specs.Prelude.{◌≡◌, ◌≤◌, ◌<◌, ◌^◌, ◌+◌, ◌-◌, ◌==◌, ◌&&◌, ◌++◌, ℕ, [], length, map, IfOk, nat_eq, nat_lt, not, is_some, if◌then◌else◌, true, false, IsTrue, IsSome, IfSome, OnOk, OnErr, None, Some};
 ghost use Rattle.std.specs.Ordering.{nat_cmp};
 ghost use Rattle.std.specs.BTreeMap.{get, is_at, insert_entry};
 ghost use Rattle.std.specs.Map.{lookup, set_value, remove_entry};
@@ -14,6 +14,7 @@ ghost use Rattle.layout_meaning.specs.Rows.{numbered_rows, rows_from, is_spilled
 ghost use Rattle.primary_rows.specs.Cells.{is_small, is_small_if, pair_of, pair_with};
 ghost use Rattle.primary_rows.specs.Places.{opens, goes_behind, first_row, drops, gone};
 ghost use Rattle.primary_rows.specs.Counted.{count_in};
+ghost use Rattle.primary_rows.specs.Held.{IsThere, pair_count};
 ghost use Rattle.std.specs.List.{AllByRecursion};
 ghost use Rattle.layout_meaning.specs.Sound.{IsSoundList};
 ghost use Rattle.bulk_meaning.specs.Appended.{given_entities, named_lists, with_lists, IsAbove};
@@ -22,6 +23,7 @@ use crate::append::move_entities;
 use crate::cells::Pair;
 use crate::counts::SpillCounts;
 use crate::rows::EntityRows;
+use crate::values::rows_count;
 use crate::views::RowView;
 use layout_meaning::Value;
 use std::alloc::{AllocError, Global};
@@ -128,6 +130,18 @@ impl Table {
         match self.entities.get(&entity) {
             Some(rows) => rows.find(pred),
             None => None,
+        }
+    }
+
+    /// How many values an entity holds, each element of a list counted.
+    pub(crate) fn values_of(&self, lists: &Lists, entity: u32) -> u64
+        requires there { AllByRecursion (AllByRecursion (IsThere lists.now.lists)) (rows_of self.now entity) }
+        requires few { total (total (pair_count lists.now.lists)) (rows_of self.now entity) < 2 ^ 64 }
+        ensures { result ≡ total (total (pair_count lists.now.lists)) (rows_of self.now entity) }
+    {
+        match self.entities.get(&entity) {
+            Some(rows) => rows_count(lists, rows),
+            None => 0,
         }
     }
 

@@ -1,2 +1,4 @@
-pub mod Sighted
+pub mod Headings
 pub mod Lookups
+pub mod Sighted
+pub mod Texts

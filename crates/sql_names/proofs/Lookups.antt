@@ -1,18 +1,19 @@
 -- Names looked up among tables and steps.
 use Rattle.std.proofs.Common.{◌≡◌, ℕ, zero, suc, ◌+◌, ◌<◌, Bool, true, false, List, [], ◌∷◌, ◌++◌, map, length, take, get_or, Option, Some, None, nat_lt, refl, sym, ap, ◌∙◌, subst, arith}
 use Rattle.std.specs.Prelude.{not, ◌&&◌, ◌||◌, if◌then◌else◌, cond}
-use Rattle.std.proofs.lemmas.Bool.{and_parts, false_from_ne_true, both_ways}
-use Rattle.std.proofs.lemmas.Slice.Eq.{bytes_eq-Decides}
+use Rattle.std.proofs.lemmas.Bool.{and_parts}
 use Rattle.std.proofs.lemmas.List.{take_more, map-append}
 use Rattle.std.specs.List.{list_any, position, position_or_len}
 use Rattle.std.specs.Map.{lookup, keys_of}
 use Rattle.std.specs.Str.{bytes_eq}
 use Rattle.table_meaning.specs.declared.schema.Column.{Column}
-use Rattle.table_meaning.specs.Schemas.{are_distinct}
+use Rattle.rdf_meaning.specs.Terms.{is_empty}
+use Rattle.table_meaning.specs.Schemas.{are_distinct, is_schema, column_names}
 use Rattle.sql_rows_meaning.specs.declared.schema.NamedSchema.{NamedSchema}
 use Rattle.sql_rows_meaning.specs.Scopes.{schemas_of}
 use Rattle.script_places.specs.Places.{number_of}
 use Rattle.sql_names.specs.Entries.{named, all_named}
+use Rattle.sql_names.proofs.Texts.{turned, not_left, other, place-is}
 
 abbrev Entries : Type 0
 Entries = List (List ℕ × List Column)
@@ -30,11 +31,7 @@ schemas-looked_up [] name = refl
 schemas-looked_up (e ∷ es) name = ap (λ (rest : Option (List Column)). if bytes_eq name e.0 then Some e.1 else rest) (schemas-looked_up es name)
 
 pub number-found : (es : Entries) (name : List ℕ) (n : ℕ) → Some n ≡ position (bytes_eq name) (keys_of es) → n ≡ number_of (all_named es) name
-number-found es name n h = at (nat_lt (position_or_len (bytes_eq name) (keys_of es)) (length (keys_of es))) h ∙ number-counted es name
-  where
-    at : (b : Bool) → Some n ≡ cond b (Some (position_or_len (bytes_eq name) (keys_of es))) None → n ≡ position_or_len (bytes_eq name) (keys_of es)
-    at true h = cc
-    at false h = cc
+number-found es name n h = place-is (bytes_eq name) (keys_of es) n h ∙ number-counted es name
 
 pub columns-found : (es : Entries) (name : List ℕ) (columns : List Column) → Some columns ≡ lookup (bytes_eq name) es → schemas_of (all_named es) name ≡ Some columns
 columns-found es name columns h = schemas-looked_up es name ∙ sym h
@@ -50,28 +47,8 @@ one_more es name columns = map-append named es ((name, columns) ∷ [])
 
 -- ---- the given tables
 
-turned : (x y : List ℕ) → bytes_eq x y ≡ false → bytes_eq y x ≡ false
-turned x y h = false_from_ne_true (bytes_eq y x) (λ e. both_ways (bytes_eq x y) h ((bytes_eq-Decides x y).1 (sym ((bytes_eq-Decides y x).0 e))))
-
 abbrev name_of : NamedSchema → List ℕ
 name_of s = s.name
-
-not_left : (a b : Bool) → not a && b ≡ true → (a ≡ false) × (b ≡ true)
-not_left true b h = cc
-not_left false b h = (refl, h)
-
-other : (name : List ℕ) (rest : List NamedSchema) (j : ℕ) (x : NamedSchema) → list_any (bytes_eq name) (map name_of rest) ≡ false → j < length rest → x ≡ get_or rest j x → bytes_eq name x.name ≡ false
-other name [] j x h within is = absurd (omega arith)
-other name (s ∷ rest) zero x h within is = ap (λ (t : NamedSchema). bytes_eq name t.name) is ∙ at (bytes_eq name s.name) h
-  where
-    at : (b : Bool) → (b || list_any (bytes_eq name) (map name_of rest)) ≡ false → b ≡ false
-    at true h = h
-    at false h = refl
-other name (s ∷ rest) (suc j) x h within is = other name rest j x (at (bytes_eq name s.name) h) (omega arith) is
-  where
-    at : (b : Bool) → (b || list_any (bytes_eq name) (map name_of rest)) ≡ false → list_any (bytes_eq name) (map name_of rest) ≡ false
-    at true h = cc
-    at false h = h
 
 absent-before : (schemas : List NamedSchema) (i : ℕ) (x : NamedSchema) → are_distinct (map name_of schemas) ≡ true → i < length schemas → x ≡ get_or schemas i x → schemas_of (take i schemas) x.name ≡ None
 absent-before [] i x h within is = absurd (omega arith)
@@ -79,7 +56,7 @@ absent-before (s ∷ schemas) zero x h within is = refl
 absent-before (s ∷ schemas) (suc j) x h within is =
     let p = not_left (list_any (bytes_eq s.name) (map name_of schemas)) (are_distinct (map name_of schemas)) h in
     let within' : j < length schemas = omega arith in
-    let apart : bytes_eq x.name s.name ≡ false = turned s.name x.name (other s.name schemas j x p.0 within' is) in
+    let apart : bytes_eq x.name s.name ≡ false = turned s.name x.name (other name_of s.name schemas j x p.0 within' is) in
     rw apart (absent-before schemas j x p.1 within' is)
 
 pub absent_yet : (schemas known : List NamedSchema) (i : ℕ) (x : NamedSchema) → are_distinct (map (λ (s : NamedSchema). s.name) schemas) ≡ true → i < length schemas → x ≡ get_or schemas i x → known ≡ take i schemas → schemas_of known x.name ≡ None
@@ -88,3 +65,7 @@ absent_yet schemas known i x h within is was = ap (λ (l : List NamedSchema). sc
 pub taken_next : (schemas : List NamedSchema) (es new : Entries) (i : ℕ) (x : NamedSchema) → i < length schemas → x ≡ get_or schemas i x → all_named es ≡ take i schemas → new ≡ es ++ (x.name, x.schema) ∷ [] → all_named new ≡ take (i + 1) schemas
 taken_next schemas es new i x within is was made =
     ap all_named made ∙ one_more es x.name x.schema ∙ ap (λ (l : List NamedSchema). l ++ x ∷ []) was ∙ ap (λ (y : NamedSchema). take i schemas ++ y ∷ []) is ∙ sym (take_more schemas i x within)
+
+-- the names of a schema differ
+pub names_differ : (columns : List Column) → is_schema columns ≡ true → are_distinct (column_names columns) ≡ true
+names_differ columns h = (and_parts (not (is_empty columns)) (are_distinct (column_names columns)) h).1

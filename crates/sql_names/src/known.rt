@@ -1,12 +1,13 @@
 //! Tables and steps by their names.
 
 ghost use Rattle.std.specs.Prelude.{◌≡◌, ◌++◌, ◌∷◌, [], map, IfOk, OnOk, IsTrue, None, Some, MatchOption};
-ghost use Rattle.table_meaning.specs.Schemas.{are_distinct};
+ghost use Rattle.table_meaning.specs.Schemas.{are_distinct, column_names};
 ghost use Rattle.sql_rows_meaning.specs.declared.schema.NamedSchema.{NamedSchema};
 ghost use Rattle.sql_rows_meaning.specs.Scopes.{schemas_of};
 ghost use Rattle.script_places.specs.Places.{number_of};
 ghost use Rattle.sql_names.specs.Entries.{all_named};
 
+use crate::columns::Columns;
 use indexmap::IndexMap;
 use rdf_meaning::Text;
 use sql_rows_meaning::NamedSchema;
@@ -14,26 +15,11 @@ use std::alloc::{AllocError, Global};
 use std::marker::Model;
 use table_meaning::Column;
 
-/// Columns, as a list.
-#[derive(Drop)]
-struct Columns {
-    columns: Vec<Column>,
-}
-
-impl Model for Columns {
-    ghost use Rattle.std.specs.Prelude.{List};
-    ghost use Rattle.table_meaning.specs.declared.schema.Column.{Column};
-
-    ghost Value = { List Column };
-
-    ghost view = { λ c. c.columns.items };
-}
-
 /// A table or a step: its number, from 0, and its columns.
 #[derive(Clone, Copy)]
 pub struct Relation<'a> {
     pub number: usize,
-    pub columns: &'a [Column],
+    pub columns: &'a Columns,
 }
 
 /// The tables and, behind them, the steps so far: contracts see a list of names and columns.
@@ -57,31 +43,20 @@ fn add_new(
     alloc: Global,
     relations: &mut IndexMap<Text, Columns>,
     name: &Text,
-    columns: Vec<Column>,
+    columns: Columns,
 ) -> Result<(), AllocError>
     requires { schemas_of (all_named relations.old.entries) name.now ≡ None }
-    ensures { OnOk result (relations.new.entries ≡ relations.old.entries ++ (name.now, columns.items) ∷ []) }
+    ensures { OnOk result (relations.new.entries ≡ relations.old.entries ++ (name.now, columns) ∷ []) }
 {
-    let Ok(_old) = relations.insert(name.copy(alloc)?, Columns { columns }) else {
+    let Ok(_old) = relations.insert(name.copy(alloc)?, columns) else {
         return Err(AllocError);
     };
     Ok(())
 }
 
-// Equal columns.
-fn copied(alloc: Global, columns: &[Column]) -> Result<Vec<Column>, AllocError>
-    ensures { IfOk result (λ copies. copies.items ≡ columns.now) }
-{
-    let mut copies = Vec::with_capacity(alloc, columns.len())?;
-    for column in columns {
-        copies.push(column.copy(alloc)?)?;
-    }
-    Ok(copies)
-}
-
 impl Known {
     /// The given tables, whose names differ.
-    #[tactic(auto, using(crate::proofs::Lookups::absent_yet, crate::proofs::Lookups::taken_next))]
+    #[tactic(auto, using(crate::proofs::Lookups::absent_yet, crate::proofs::Lookups::taken_next, crate::proofs::Lookups::names_differ))]
     pub fn new(alloc: Global, schemas: &[NamedSchema]) -> Result<Known, AllocError>
         requires { IsTrue (are_distinct (map (λ (s : NamedSchema). s.name) schemas.now)) }
         ensures { IfOk result (λ known. known ≡ schemas.now) }
@@ -89,7 +64,7 @@ impl Known {
         let mut relations = IndexMap::new(alloc);
         for at in 0..schemas.len() {
             let given = &schemas[at];
-            let columns = copied(alloc, given.schema.columns())?;
+            let columns = Columns::new(alloc, given.schema.columns())?;
             add_new(alloc, &mut relations, &given.name, columns)?;
         }
         Ok(Known { relations })
@@ -102,7 +77,7 @@ impl Known {
         match self.relations.get_full(name) {
             Some((number, _, found)) => Some(Relation {
                 number,
-                columns: found.columns.as_slice(),
+                columns: found,
             }),
             None => None,
         }
@@ -110,15 +85,12 @@ impl Known {
 
     /// Adds a step, whose name isn't there, behind the others.
     #[tactic(auto, using(crate::proofs::Lookups::one_more))]
-    pub fn add(
-        &mut self,
-        alloc: Global,
-        name: &Text,
-        columns: Vec<Column>,
-    ) -> Result<(), AllocError>
-        requires { schemas_of self.old name.now ≡ None }
-        ensures { OnOk result (self.new ≡ self.old ++ record { name = name.now; schema = columns.items } ∷ []) }
+    pub fn add(&mut self, alloc: Global, name: &Text, columns: &[Column]) -> Result<(), AllocError>
+        requires new { schemas_of self.old name.now ≡ None }
+        requires names { IsTrue (are_distinct (column_names columns.now)) }
+        ensures { OnOk result (self.new ≡ self.old ++ record { name = name.now; schema = columns.now } ∷ []) }
     {
+        let columns = Columns::new(alloc, columns)?;
         add_new(alloc, &mut self.relations, name, columns)
     }
 }

@@ -1,82 +1,99 @@
 //! The sources of a SELECT.
 
-ghost use Rattle.std.specs.Prelude.{◌≡◌, if◌then◌else◌, Option};
-ghost use Rattle.std.specs.List.{list_any};
+ghost use Rattle.std.specs.Prelude.{◌≡◌, ◌++◌, ◌∷◌, [], false, None, OnOk};
+ghost use Rattle.std.specs.List.{list_any, IsDistinct};
+ghost use Rattle.std.specs.Map.{lookup, keys_of};
 ghost use Rattle.std.specs.Str.{bytes_eq};
-ghost use Rattle.table_meaning.specs.declared.kind.Kind.{Kind};
-ghost use Rattle.bound_scripts.specs.declared.expression.BoundExpr.{BoundExpr};
-ghost use Rattle.sql_rows_meaning.specs.Scopes.{kind_under};
-ghost use Rattle.script_places.specs.Places.{column_place, seen_of};
+ghost use Rattle.script_places.specs.Places.{seen_of, places_of};
 ghost use Rattle.sql_names.specs.Found.{Finds};
-ghost use Rattle.sql_names.specs.Newest.{newest_first, scope_in, places_in};
+ghost use Rattle.sql_names.specs.Newest.{scope_in};
 
+use crate::columns::Columns;
 use crate::found::Place;
+use indexmap::IndexMap;
 use rdf_meaning::Text;
-use table_meaning::Column;
+use std::alloc::{AllocError, Global};
+use std::marker::Model;
 
-/// A source of a SELECT: its alias, and the columns under it.
-#[derive(Clone, Copy)]
-pub struct Source<'a> {
-    pub alias: &'a Text,
-    pub columns: &'a [Column],
+/// The sources of a SELECT so far, whose aliases differ: contracts see a list of aliases and columns, the last source first.
+#[derive(Drop)]
+pub struct Sources<'a> {
+    columns: IndexMap<Text, &'a Columns>,
 }
 
-// The first column with this name, of the source with this number.
-#[tactic(auto, using(crate::proofs::Sighted::column_here, crate::proofs::Sighted::column_later))]
-fn column_under(source: usize, columns: &[Column], name: &Text) -> Option<Place>
-    ensures { Finds (kind_under columns.now name.now) (column_place source 0 columns.now name.now) result }
+impl<'a> Model for Sources<'a> {
+    ghost use Rattle.std.specs.Prelude.{List};
+    ghost use Rattle.std.specs.List.{IsDistinct};
+    ghost use Rattle.std.specs.Map.{keys_of};
+    ghost use Rattle.std.specs.Str.{bytes_eq};
+    ghost use Rattle.sql_rows_meaning.specs.declared.schema.NamedSchema.{NamedSchema};
+    ghost use Rattle.sql_names.specs.Newest.{newest_first};
+
+    ghost Value = { List NamedSchema };
+
+    ghost view = { λ s. newest_first s.columns.entries };
+
+    ghost invariant = { λ s. IsDistinct bytes_eq (keys_of s.columns.entries) };
+}
+
+// Puts a source last, under an alias that isn't there.
+fn add_new<'a>(
+    alloc: Global,
+    sources: &mut IndexMap<Text, &'a Columns>,
+    alias: &Text,
+    columns: &'a Columns,
+) -> Result<(), AllocError>
+    requires new { lookup (bytes_eq alias.now) sources.old.entries ≡ None }
+    requires distinct { IsDistinct bytes_eq (keys_of sources.old.entries) }
+    ensures entries { OnOk result (sources.new.entries ≡ sources.old.entries ++ (alias.now, columns.entry) ∷ []) }
+    ensures distinct { IsDistinct bytes_eq (keys_of sources.new.entries) }
 {
-    for at in 0..columns.len() {
-        let column = &columns[at];
-        if column.name == *name {
-            return Some(Place {
-                kind: column.kind,
-                source,
-                column: at,
-            });
+    let Ok(_old) = sources.insert(alias.copy(alloc)?, columns) else {
+        return Err(AllocError);
+    };
+    Ok(())
+}
+
+impl<'a> Sources<'a> {
+    /// No source.
+    pub fn new(alloc: Global) -> Sources<'a>
+        ensures { result ≡ [] }
+    {
+        Sources {
+            columns: IndexMap::new(alloc),
         }
     }
-    None
-}
 
-// What was found so far, or what is found in one more source.
-fn last_found(
-    found: Option<Place>,
-    number: usize,
-    source: &Source<'_>,
-    alias: &Text,
-    column: &Text,
-) -> Option<Place>
-    ensures { (k : Option Kind) (p : BoundExpr) → Finds k p found → Finds (if bytes_eq alias.now source.now.alias.now then kind_under source.now.columns.now column.now else k) (if bytes_eq alias.now source.now.alias.now then column_place number 0 source.now.columns.now column.now else p) result }
-{
-    if *alias == *source.alias {
-        column_under(number, source.columns, column)
-    } else {
-        found
+    /// Whether a source has this alias.
+    #[tactic(auto, using(crate::proofs::Sighted::taken_told))]
+    pub fn has(&self, alias: &Text) -> bool
+        ensures { result ≡ list_any (bytes_eq alias.now) (seen_of self.now).aliases }
+    {
+        self.columns.contains_key(alias)
     }
-}
 
-/// The column under an alias, of the last source that has it.
-#[tactic(auto, using(crate::proofs::Sighted::sighted))]
-pub fn find_column(sources: &[Source<'_>], alias: &Text, column: &Text) -> Option<Place>
-    ensures { Finds (scope_in sources.now alias.now column.now) (places_in sources.now alias.now column.now) result }
-{
-    let mut found = None;
-    for at in 0..sources.len() {
-        found = last_found(found, at, &sources[at], alias, column);
+    /// Adds a source under an alias that no source has.
+    #[tactic(auto, using(crate::proofs::Sighted::not_taken, crate::proofs::Sighted::newest_added))]
+    pub fn add(
+        &mut self,
+        alloc: Global,
+        alias: &Text,
+        columns: &'a Columns,
+    ) -> Result<(), AllocError>
+        requires { list_any (bytes_eq alias.now) (seen_of self.old).aliases ≡ false }
+        ensures { OnOk result (self.new ≡ record { name = alias.now; schema = columns.now } ∷ self.old) }
+    {
+        add_new(alloc, &mut self.columns, alias, columns)
     }
-    found
-}
 
-/// Whether a source has this alias.
-#[tactic(auto, using(crate::proofs::Sighted::taken_more))]
-pub fn is_taken(sources: &[Source<'_>], alias: &Text) -> bool
-    ensures { result ≡ list_any (bytes_eq alias.now) (seen_of (newest_first sources.now)).aliases }
-{
-    let mut taken = false;
-    for at in 0..sources.len() {
-        let source = &sources[at];
-        taken = *alias == *source.alias || taken;
+    /// The column under an alias.
+    #[tactic(auto, using(crate::proofs::Sighted::seen_under, crate::proofs::Sighted::seen_nowhere))]
+    pub fn find(&self, alias: &Text, column: &Text) -> Option<Place>
+        ensures { Finds (scope_in self.now alias.now column.now) (places_of self.now alias.now column.now) result }
+    {
+        match self.columns.get_full(alias) {
+            Some((source, _, columns)) => columns.find(source, column),
+            None => None,
+        }
     }
-    taken
 }

@@ -7,5 +7,5 @@ use Rattle.sql_names.proofs.known.add_new.Goals as goal
 
 pub returns : goal.returns
 returns c =
-    c.in-Ok.ensures.entries ∙ ap (λ (k : List ℕ). insert_entry bytes_eq c.args.relations.now.entries k c.args.columns.items) c.in_ok-copy.ensures
-    ∙ insert_entry-new bytes_eq c.args.relations.now c.args.name.now c.args.columns.items (not-there c.args.relations.now.entries c.args.name.now c.requires)
+    c.in-Ok.ensures.entries ∙ ap (λ (k : List ℕ). insert_entry bytes_eq c.args.relations.now.entries k c.args.columns) c.in_ok-copy.ensures
+    ∙ insert_entry-new bytes_eq c.args.relations.now c.args.name.now c.args.columns (not-there c.args.relations.now.entries c.args.name.now c.requires)

@@ -13,7 +13,7 @@ returns-in-Some c =
     let found : schemas_of (all_named es) name ≡ Some c.in-Some.found.now = columns-found es name c.in-Some.found.now c.in-Some.ensures.value in
     let number : c.in-Some.number ≡ number_of (all_named es) name = number-found es name c.in-Some.number c.in-Some.ensures.index in
     let view : all_named es ≡ c.args.self.now = c.self.view_is in
-    (ap (λ (l : List NamedSchema). schemas_of l name) (sym view) ∙ found ∙ ap Some (sym (c.as_slice.ensures.value ∙ c.found.view_is)), number ∙ ap (λ (l : List NamedSchema). number_of l name) view)
+    (ap (λ (l : List NamedSchema). schemas_of l name) (sym view) ∙ found, number ∙ ap (λ (l : List NamedSchema). number_of l name) view)
 
 pub returns-in-None : goal.returns-in-None
 returns-in-None c =

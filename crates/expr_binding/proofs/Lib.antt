@@ -1,0 +1,4 @@
+pub mod CaseKinds
+pub mod Fine
+pub mod Paths
+pub mod Walked

@@ -1,0 +1,4 @@
+pub mod Fits
+pub mod NewNames
+pub mod Parts
+pub mod Renamed

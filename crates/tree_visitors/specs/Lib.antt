@@ -1,0 +1,4 @@
+pub mod AnyNode
+pub mod Counted
+pub mod Levels
+pub mod Shapes

@@ -1,2 +1,3 @@
 pub mod RowForms
 pub mod Places
+mod Ordered

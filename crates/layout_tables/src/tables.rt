@@ -2,15 +2,19 @@
 
 ghost use Rattle.std.specs.Prelude.{◌≡◌, ◌≤◌, ◌∷◌, ◌++◌, [], IfOk, OnOk, codes, map};
 ghost use Rattle.std.specs.List.{flat_map};
+ghost use Rattle.std.specs.List.Sorted.{IsStrictlySortedBy};
+ghost use Rattle.std.specs.Map.{keys_of};
+ghost use Rattle.std.specs.Ordering.{nat_cmp};
 ghost use Rattle.layout_meaning.specs.Rows.{numbered_rows};
 ghost use Rattle.standing_meaning.specs.Dictionary.{entries_of};
 ghost use Rattle.standing_meaning.specs.Schemas.{primary_schema, list_schema, term_schema, table_of};
-ghost use Rattle.standing_meaning.specs.Contents.{row_cells, element_cells, term_cells};
-ghost use Rattle.standing_meaning.specs.Stored.{IsStore, tables_of};
+ghost use Rattle.standing_meaning.specs.Contents.{row_cells, element_cells, term_cells, contents_of};
+ghost use Rattle.standing_meaning.specs.Stored.{IsStore, tables_of, layout_of};
 ghost use Rattle.standing_meaning.specs.Changes.{store_of};
 ghost use Rattle.list_order.specs.InOrder.{AreInOrder, AreRising};
 ghost use Rattle.primary_rows.specs.Views.{seen_row};
 ghost use Rattle.list_elements.specs.ElementRows.{element_row};
+ghost use Rattle.layout_tables.specs.RowOrder.{StandInOrder};
 
 use crate::table::{Table, TableRows};
 use layout_schemas::{list_schema, primary_schema, term_schema};
@@ -108,7 +112,8 @@ fn push_side<'a>(
     lists: &str,
 ) -> Result<(), AllocError>
     requires { AreRising side.now.state.lists }
-    ensures { OnOk result (tables.new.items ≡ tables.old.items ++ table_of primary.now (primary_schema side.now.columns.count) (map row_cells (numbered_rows side.now.state.entities)) ∷ table_of lists.now list_schema (flat_map element_cells side.now.state.lists) ∷ []) }
+    ensures tables { OnOk result (tables.new.items ≡ tables.old.items ++ table_of primary.now (primary_schema side.now.columns.count) (map row_cells (numbered_rows side.now.state.entities)) ∷ table_of lists.now list_schema (flat_map element_cells side.now.state.lists) ∷ []) }
+    ensures rising { IsStrictlySortedBy nat_cmp (keys_of side.now.state.entities) }
 {
     let rows = side.rows(alloc)?;
     let elements = elements(alloc, side, rows.as_slice())?;
@@ -139,6 +144,7 @@ pub fn tables_of<'a>(
     requires store { IsStore (store_of book.now sides.now) }
     requires order { AreInOrder sides.now }
     ensures tables { IfOk result (λ tables. tables ≡ tables_of (store_of book.now sides.now)) }
+    ensures order { IfOk result (λ tables. StandInOrder (layout_of (store_of book.now sides.now)) (contents_of sides.now.direct.state sides.now.reverse.state book.now) tables) }
 {
     // How many columns there are at most is told by a call.
     let _direct = sides.direct().columns().count();

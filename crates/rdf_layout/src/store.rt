@@ -4,11 +4,12 @@ ghost use Rattle.std.specs.Prelude.{◌≡◌, ◌≢◌, [], ◌∷◌, if◌th
 ghost use Rattle.bags.specs.Bag.{SameBag};
 ghost use Rattle.value_lists.specs.Answers.{put_of};
 ghost use Rattle.primary_rows.specs.Answers.{took_of};
-ghost use Rattle.standing_meaning.specs.Contents.{side_contents};
+ghost use Rattle.standing_meaning.specs.Contents.{side_contents, contents_of};
 ghost use Rattle.standing_meaning.specs.Standing.{StandsFor};
 ghost use Rattle.standing_meaning.specs.Stored.{IsStore, layout_of, tables_of, stored_triples};
 ghost use Rattle.standing_meaning.specs.Changes.{is_stored, stored_in, taken_out, IsRefused};
 ghost use Rattle.stats_meaning.specs.Statistics.{AreStats, AreSideStats};
+ghost use Rattle.layout_tables.specs.RowOrder.{StandInOrder};
 ghost use Rattle.rdf_layout.specs.Refused.{Refuses, HasRoom};
 ghost use Rattle.rdf_layout.specs.Bulk.{empty_store, empty_sides, each_once, terms_of, loaded, refusal_from};
 
@@ -119,12 +120,14 @@ impl Store {
         take(&self.book, &mut self.sides, t)
     }
 
-    /// The tables DPH, DS, RPH, RS and TERM: rows by rising entity, then by number; lists by falling id; terms
-    /// by rising id. They stand for the triples that are stored, under the layout of the load. The terms are
-    /// lent; memory goes with the rows and with the elements of lists.
+    /// The tables DPH, DS, RPH, RS and TERM, which stand for the triples that are stored, under the layout of
+    /// the load. Their rows stand in one order: those of DPH and RPH by rising entity, then by rising number;
+    /// those of DS and RS list by list, by falling id, each list's elements in its order; those of TERM by
+    /// rising id. The terms are lent; memory goes with the rows and with the elements of lists.
     pub fn tables(&self, alloc: Global) -> Result<Tables<'_>, AllocError>
         ensures tables { IfOk result (λ tables. tables ≡ tables_of self.now) }
         ensures stand { IfOk result (λ tables. StandsFor (layout_of self.now) tables (stored_triples self.now)) }
+        ensures order { IfOk result (λ tables. StandInOrder (layout_of self.now) (contents_of self.now.direct.state self.now.reverse.state self.now.terms) tables) }
     {
         tables_of(alloc, &self.book, &self.sides)
     }

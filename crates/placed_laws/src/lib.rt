@@ -1,0 +1,34 @@
+//! Laws of the tables that a layout gives for changes.
+#![tactic(auto)]
+
+ghost use Rattle.std.specs.Prelude.{◌≡◌, ◌≤◌, List, map, fold, length, ◌++◌};
+ghost use Rattle.bags.specs.Bag.{SameBag};
+ghost use Rattle.rdf_meaning.specs.Terms.{RdfTriple};
+ghost use Rattle.table_meaning.specs.Tables.{NamedTable};
+ghost use Rattle.line_meaning.specs.declared.change.Change.{Change};
+ghost use Rattle.line_meaning.specs.declared.change.Change.TheVariants.{Add};
+ghost use Rattle.line_meaning.specs.Present.{named, bulk};
+ghost use Rattle.standing_meaning.specs.Schemas.{LayoutOf};
+ghost use Rattle.standing_meaning.specs.Stored.{layout_of};
+ghost use Rattle.run_meaning.specs.Limits.{terms_needed};
+ghost use Rattle.stats_meaning.specs.Statistics.{StatsOf, AreStats};
+ghost use Rattle.placed_meaning.specs.Placed.{changed_in, store_without_triples, placed_store, later_changes};
+
+/// The bulk and the later changes are all changes, and loading the bulk at once is making its changes one by one.
+pub fn one_by_one()
+    ensures parts { (changes : List Change) → map Add (map named (bulk changes)) ++ later_changes changes ≡ changes }
+    ensures same { (layout : LayoutOf) (changes : List Change) → placed_store layout changes ≡ fold changed_in (store_without_triples layout) changes }
+{}
+
+/// Changes keep the layout, and note the terms that they need; each uses one list id of a side at most.
+pub fn kept()
+    ensures layout { (layout : LayoutOf) (changes : List Change) → layout_of (placed_store layout changes) ≡ layout }
+    ensures terms { (layout : LayoutOf) (changes : List Change) → (placed_store layout changes).terms ≡ terms_needed changes }
+    ensures direct_ids { (layout : LayoutOf) (changes : List Change) → (placed_store layout changes).direct.state.next ≤ length changes }
+    ensures reverse_ids { (layout : LayoutOf) (changes : List Change) → (placed_store layout changes).reverse.state.next ≤ length changes }
+{}
+
+/// The order of the triples that tables stand for changes no statistics.
+pub fn same_stats()
+    ensures { (layout : LayoutOf) (tables : List NamedTable) (g h : List RdfTriple) (stats : StatsOf) → SameBag g h → AreStats layout tables g stats → AreStats layout tables h stats }
+{}

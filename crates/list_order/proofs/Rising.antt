@@ -26,7 +26,7 @@ insert-from b n w (e ∷ es) l h = by (nat_cmp n e.0) (insert-from b n w es l h.
     by Equal ih = (h.0, h.1)
     by Greater ih = (h.0, ih)
 
-insert-rises : (n : ℕ) (w : List ℕ) (es : ValueLists) → AreRising es → AreRising (insert_entry nat_cmp es n w)
+pub insert-rises : (n : ℕ) (w : List ℕ) (es : ValueLists) → AreRising es → AreRising (insert_entry nat_cmp es n w)
 insert-rises n w [] r = (tt, tt)
 insert-rises n w (e ∷ es) r = by (nat_cmp n e.0) refl (insert-rises n w es r.1)
   where

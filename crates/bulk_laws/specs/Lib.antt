@@ -1,0 +1,2 @@
+pub mod BulkStore
+pub mod BulkLaws

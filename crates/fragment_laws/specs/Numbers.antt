@@ -24,7 +24,7 @@ NumberedFrom n [] = Unit {0}
 NumberedFrom n (p ∷ ps) = (p.number ≡ n) × NumberedFrom (suc n) ps
 
 -- up to before the second number
-abbrev Numbers : ℕ → List Pattern → ℕ → Type 0
+abbrev pub Numbers : ℕ → List Pattern → ℕ → Type 0
 Numbers n [] m = n ≡ m
 Numbers n (p ∷ ps) m = (p.number ≡ n) × Numbers (suc n) ps m
 
@@ -44,30 +44,30 @@ numbers-patterns n (p ∷ ps) =
 
 -- ---- numbering, by the constructor
 
-abbrev number : Element → Numbering Element
+abbrev pub number : Element → Numbering Element
 number x = fold-Element (Numbering Element) (Numbering Group) number_element number_group x
 
-abbrev number_in : Group → Numbering Group
+abbrev pub number_in : Group → Numbering Group
 number_in g = fold-Group (Numbering Element) (Numbering Group) number_element number_group g
 
-number-Triples : (ps : List Pattern) (n : ℕ) → number (v.Triples ps) n ≡ numbered (v.Triples (number_patterns n ps)) (n + length ps)
+pub number-Triples : (ps : List Pattern) (n : ℕ) → number (v.Triples ps) n ≡ numbered (v.Triples (number_patterns n ps)) (n + length ps)
 number-Triples ps n = ap (λ x. number x n) (sym (v.rolls-Triples ps)) ∙ ap (λ (f : Numbering Element). f n) (fold-roll-Element (Numbering Element) (Numbering Group) number_element number_group (layer.Triples ps))
 
-number-Optional : (g : Group) (n : ℕ) → number (v.Optional g) n ≡ made_by v.Optional (number_in g n)
+pub number-Optional : (g : Group) (n : ℕ) → number (v.Optional g) n ≡ made_by v.Optional (number_in g n)
 number-Optional g n = ap (λ x. number x n) (sym (v.rolls-Optional g)) ∙ ap (λ (f : Numbering Element). f n) (fold-roll-Element (Numbering Element) (Numbering Group) number_element number_group (layer.Optional g))
 
-number-Unions : (gs : List Group) (n : ℕ) → number (v.Unions gs) n ≡ made_by v.Unions (number_all (map number_in gs) n)
+pub number-Unions : (gs : List Group) (n : ℕ) → number (v.Unions gs) n ≡ made_by v.Unions (number_all (map number_in gs) n)
 number-Unions gs n = ap (λ x. number x n) (sym (v.rolls-Unions gs)) ∙ ap (λ (f : Numbering Element). f n) (fold-roll-Element (Numbering Element) (Numbering Group) number_element number_group (layer.Unions gs))
 
-number-Condition : (c : TruthExpr) (n : ℕ) → number (v.Condition c) n ≡ numbered (v.Condition c) n
+pub number-Condition : (c : TruthExpr) (n : ℕ) → number (v.Condition c) n ≡ numbered (v.Condition c) n
 number-Condition c n = ap (λ x. number x n) (sym (v.rolls-Condition c)) ∙ ap (λ (f : Numbering Element). f n) (fold-roll-Element (Numbering Element) (Numbering Group) number_element number_group (layer.Condition c))
 
-number_in-opened : (g : Group) (n : ℕ) → number_in g n ≡ made_by group_of (number_all (map number g.elements) n)
+pub number_in-opened : (g : Group) (n : ℕ) → number_in g n ≡ made_by group_of (number_all (map number g.elements) n)
 number_in-opened g n = ap (λ (f : Numbering Group). f n) (fold_out-Group (Numbering Element) (Numbering Group) number_element number_group g)
 
 -- ---- an element's patterns have the numbers that its numbering uses up
 
-record Counted (x : Element) : Type 0 where
+pub record Counted (x : Element) : Type 0 where
   pub numbers : (n : ℕ) → Numbers n (part_patterns (part (number x n).made)) (number x n).after
 
 counted_list : (es : List Element) → AllByRecursion Counted es → (n start : ℕ) (before : Gathered) → Numbers start (gathered_patterns before) n →
@@ -81,7 +81,7 @@ counted_list (e ∷ es) c n start before h =
 none_yet : (n : ℕ) → Numbers n (gathered_patterns nothing_yet) n
 none_yet n = subst (λ (ps : List Pattern). Numbers n (ps ++ []) n) (sym (patterns-Leaf [])) refl
 
-counted_group : (g : Group) → OfGroup Counted g → (n : ℕ) → Numbers n (gathered_patterns (group (number_in g n).made)) (number_in g n).after
+pub counted_group : (g : Group) → OfGroup Counted g → (n : ℕ) → Numbers n (gathered_patterns (group (number_in g n).made)) (number_in g n).after
 counted_group g c n =
     subst (λ (y : Numbered Group). Numbers n (gathered_patterns (group y.made)) y.after) (sym (number_in-opened g n))
     (subst (λ (x : Gathered). Numbers n (gathered_patterns x) (number_all (map number g.elements) n).after) (sym (group_opened (group_of (number_all (map number g.elements) n).made)))
@@ -97,7 +97,7 @@ made_numbers : (x : Element) (n : ℕ) (y : Numbered Element) (q : Part) → num
 made_numbers x n y q e f h =
     subst (λ (z : Numbered Element). Numbers n (part_patterns (part z.made)) z.after) (sym e) (subst (λ (z : Part). Numbers n (part_patterns z) y.after) (sym f) h)
 
-counted : IsPassedUp Counted
+pub counted : IsPassedUp Counted
 counted = record {
   triples = λ ps. record { numbers = λ n. made_numbers (v.Triples ps) n _ _ (number-Triples ps n) (part-Triples (number_patterns n ps)) (numbers-patterns n ps) };
   optional = λ g c. record { numbers = λ n. made_numbers (v.Optional g) n _ _ (number-Optional g n) (part-Optional (number_in g n).made) (counted_group g c n) };

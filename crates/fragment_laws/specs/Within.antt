@@ -31,11 +31,11 @@ none_later : (f : Option FaultAt) → one_later f ≡ None → f ≡ None
 none_later None e = refl
 none_later (Some f) e = absurd (true≢false (ap is_some e))
 
-quiet_now : (f : Option Fault) (later : Option FaultAt) → fault_or f later ≡ None → f ≡ None
+pub quiet_now : (f : Option Fault) (later : Option FaultAt) → fault_or f later ≡ None → f ≡ None
 quiet_now None later e = refl
 quiet_now (Some f) later e = absurd (true≢false (ap is_some e))
 
-quiet_later : (f : Option Fault) (later : Option FaultAt) → fault_or f later ≡ None → later ≡ None
+pub quiet_later : (f : Option Fault) (later : Option FaultAt) → fault_or f later ≡ None → later ≡ None
 quiet_later None later e = none_later later e
 quiet_later (Some f) later e = absurd (true≢false (ap is_some e))
 
@@ -49,7 +49,7 @@ no_limit (q ∷ qs) e = absurd (true≢false (ap is_some e))
 
 -- ---- a number that isn't passed just now stays within
 
-not_passed : (b : Bool) (q : QueryLimit) (qs : List QueryLimit) → (if b then q ∷ [] else []) ++ qs ≡ [] → (b ≡ false) × (qs ≡ [])
+pub not_passed : (b : Bool) (q : QueryLimit) (qs : List QueryLimit) → (if b then q ∷ [] else []) ++ qs ≡ [] → (b ≡ false) × (qs ≡ [])
 not_passed true q qs e = absurd (false≢true (ap is_empty e))
 not_passed false q qs e = (refl, e)
 
@@ -60,10 +60,10 @@ still most before after e w = go (and_cases (nat_lt most after) (nat_lt before a
     go (inl l) = ltb-false most after l
     go (inr r) = let b : after ≤ before = ltb-false before after r in omega arith
 
-nothing_passed : (st : State) (t : TokenKind) (ahead : Option TokenKind) → fault_at st t ahead ≡ None → passed st (state_after st t ahead) t ≡ []
+pub nothing_passed : (st : State) (t : TokenKind) (ahead : Option TokenKind) → fault_at st t ahead ≡ None → passed st (state_after st t ahead) t ≡ []
 nothing_passed st t ahead e = no_limit _ (otherwise (is_unknown st st.declaring t) _ _ e)
 
-within_parts : (before after : State) (t : TokenKind) → Within before → passed before after t ≡ [] → Within after
+pub within_parts : (before after : State) (t : TokenKind) → Within before → passed before after t ≡ [] → Within after
 within_parts before after t w none =
     let patterns = not_passed (nat_lt 48 after.patterns && nat_lt before.patterns after.patterns) limits.Patterns _ none in
     let keys = not_passed (nat_lt 64 after.keys && nat_lt before.keys after.keys) limits.Keys _ patterns.1 in
@@ -91,7 +91,7 @@ pub names_behind : (st : State) (ts : List Token) → (state_behind st ts).names
 names_behind st [] = refl
 names_behind st (t ∷ ts) = names_behind (state_after st t.kind (next_kind ts)) ts
 
-at_first : Within nothing_yet
+pub at_first : Within nothing_yet
 at_first = record { patterns = omega arith; keys = omega arith; names = omega arith; groups = omega arith; blocks = omega arith }
 
 pub within_text : (ts : List Token) → first_fault ts ≡ None → Within (state_behind nothing_yet ts)

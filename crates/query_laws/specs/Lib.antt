@@ -1,0 +1,9 @@
+pub mod Within
+pub mod Passing
+pub mod Sound
+pub mod Names
+pub mod Effects
+pub mod Places
+pub mod Connectives
+pub mod Counts
+pub mod Limits

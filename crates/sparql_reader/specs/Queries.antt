@@ -1,0 +1,28 @@
+-- What the reading of a query tells of the text.
+use Rattle.std.specs.Prelude.{◌≡◌, ℕ, List, refl}
+use Rattle.query_meaning.specs.declared.query.Syntax.{Syntax}
+use Rattle.query_meaning.specs.declared.query.Query.{Query}
+use Rattle.fragment_meaning.specs.Translation.{translated}
+use Rattle.fragment_queries.specs.declared.refusal.QueryRefusal.{QueryRefusal}
+use Rattle.fragment_queries.specs.declared.refusal.QueryRefusal.TheVariants as refusal
+use Rattle.fragment_queries.specs.Queries.{IsQuery}
+use Rattle.query_refusals.specs.Outcomes.{ReadsAs, Refuses, no_memory, refuses}
+use Rattle.query_refusals.specs.Laws.{queries_are_not_refused, query_read, query_only}
+
+-- the text is this query of the fragment, and no other
+pub record ReadsQuery (bytes : List ℕ) (q : Query) : Type 0 where
+  pub is : IsQuery bytes q
+  pub only : (p : Query) → IsQuery bytes p → p ≡ q
+
+-- save where memory is wanting, the text is no query of the fragment
+pub record IsNoQuery (bytes : List ℕ) (r : QueryRefusal) : Type 0 where
+  pub none : (r ≡ refusal.NoMemory → ⊥) → (q : Query) → IsQuery bytes q → ⊥
+
+pub query_translated : (bytes : List ℕ) (s : Syntax) (q : Query) → ReadsAs bytes s → q ≡ translated s → ReadsQuery bytes q
+query_translated bytes s q r e = record { is = query_read bytes s q r e; only = query_only bytes s q r e }
+
+pub refused_is_none : (bytes : List ℕ) (r : QueryRefusal) → Refuses bytes r → IsNoQuery bytes r
+refused_is_none bytes r no_memory = record { none = λ memory q i. absurd (memory refl) }
+refused_is_none bytes r (refuses s x) = record { none = λ memory q i. queries_are_not_refused bytes q s i x }
+
+pub ruleset query_paths = (query_translated, refused_is_none, no_memory)

@@ -1,6 +1,6 @@
 //! Sets of variables.
 
-ghost use Rattle.std.specs.Prelude.{◌≡◌, ◌||◌, ◌==◌, false, ℕ};
+ghost use Rattle.std.specs.Prelude.{◌≡◌, ◌||◌, ◌&&◌, ◌==◌, false, ℕ};
 ghost use Rattle.variable_sets.specs.Bits.{members};
 
 use query_meaning::VarId;
@@ -48,5 +48,25 @@ impl VarSet {
         ensures { result ≡ members self.now v }
     {
         self.bits & (1 << v.number()) != 0
+    }
+
+    /// The variables that are in one of the sets.
+    #[tactic(auto, using(crate::proofs::Bits::both_laws))]
+    pub fn either(&self, other: &VarSet) -> VarSet
+        ensures { (v : ℕ) → members result v ≡ (members self.now v || members other.now v) }
+    {
+        VarSet {
+            bits: self.bits | other.bits,
+        }
+    }
+
+    /// The variables that are in both sets.
+    #[tactic(auto, using(crate::proofs::Bits::both_laws))]
+    pub fn both(&self, other: &VarSet) -> VarSet
+        ensures { (v : ℕ) → members result v ≡ (members self.now v && members other.now v) }
+    {
+        VarSet {
+            bits: self.bits & other.bits,
+        }
     }
 }

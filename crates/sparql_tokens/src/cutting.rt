@@ -3,9 +3,11 @@
 ghost use Rattle.std.specs.Prelude.{◌≡◌, ◌≤◌, ◌<◌, ◌+◌, ◌^◌, length, take, false, chars, IfOk, IfErr};
 ghost use Rattle.std.specs.Str.Lossy.{utf8_valid_len};
 ghost use Rattle.fragment_meaning.specs.Cut.{cut, cut_from, size, sound_front};
+ghost use Rattle.sparql_tokens.specs.Nameless.{IsEnd};
 ghost use Rattle.sparql_tokens.specs.Pieces.{IsBadCut, StartsToken};
 
 use crate::classes::{ends_line, is_blank};
+use crate::names::{nameless_left, nameless_still};
 use crate::place::token_at;
 use fragment_meaning::Token;
 use sqlite_items::Items;
@@ -47,13 +49,14 @@ fn byte_len(text: &[char]) -> usize
 }
 
 // What stands behind the blanks and comments in front, and its place.
-#[tactic(auto, using(crate::proofs::CutLaws::blank_paths))]
+#[tactic(auto, using(crate::proofs::CutLaws::blank_paths, crate::specs::Nameless::end_paths))]
 fn after_blanks(text: &[char], from: usize) -> (&[char], usize)
     requires { from + size text.now < 2 ^ 64 }
     ensures same { cut_from false 0 result.1 result.0.now ≡ cut_from false 0 from text.now }
     ensures count { result.1 + size result.0.now ≡ from + size text.now }
     ensures shorter { length result.0.now ≤ length text.now }
     ensures starts { StartsToken result.0.now }
+    ensures behind { IsEnd result.0.now text.now }
 {
     let mut comment = false;
     let mut at = from;
@@ -72,7 +75,7 @@ fn after_blanks(text: &[char], from: usize) -> (&[char], usize)
     (rest, at)
 }
 
-#[tactic(auto, using(crate::proofs::CutLaws::cut_paths))]
+#[tactic(auto, using(crate::proofs::CutLaws::cut_paths, crate::specs::Nameless::cut_names))]
 fn cut_chars(alloc: Global, text: &[char]) -> Result<Items<Token>, TokenRefusal>
     requires { size text.now < 2 ^ 64 }
     ensures ok { IfOk result (λ ts. cut_from false 0 0 text.now ≡ Ok ts) }
@@ -80,8 +83,10 @@ fn cut_chars(alloc: Global, text: &[char]) -> Result<Items<Token>, TokenRefusal>
 {
     let mut tokens = Items::new(alloc);
     let (mut rest, mut at) = after_blanks(text, 0);
+    let mut nameless = 0;
     'tokens: while !rest.is_empty() {
-        let Some(found) = token_at(alloc, rest)? else {
+        nameless = nameless_still(rest, nameless);
+        let Some(found) = token_at(alloc, rest, nameless > 0)? else {
             return Err(TokenRefusal::Bad { at })
         };
         let (token, after) = rest.split_at(found.chars);
@@ -92,6 +97,7 @@ fn cut_chars(alloc: Global, text: &[char]) -> Result<Items<Token>, TokenRefusal>
             to,
         })?;
         let next = after_blanks(after, to);
+        nameless = nameless_left(nameless, rest, next.0);
         rest = next.0;
         at = next.1;
     }

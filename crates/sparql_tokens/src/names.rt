@@ -1,13 +1,14 @@
 //! Variables, tags, blank nodes, prefixed names and words.
 
-ghost use Rattle.std.specs.Prelude.{◌≡◌, ◌≤◌, ◌<◌, ◌+◌, length, IsTrue, map, IfOk, IfSome, encode_utf8_all};
+ghost use Rattle.std.specs.Prelude.{◌≡◌, ◌≤◌, ◌<◌, ◌+◌, length, IsTrue, map, IfOk, IfSome, None, encode_utf8_all};
 ghost use Rattle.std.specs.List.{filter};
 ghost use Rattle.rdf_meaning.specs.Characters.{is_letter};
 ghost use Rattle.fragment_meaning.specs.Tokens.{blank_at, first_tag_len, head, is_no_backslash, label_len, later_tag_len, local_len, lower, name_len, named_at, name_or_word, part_len, tag_at, tag_len, tag_tail_len, to_colon, variable_at, word_at};
+ghost use Rattle.sparql_tokens.specs.Nameless.{IsEnd, IsNameless};
 ghost use Rattle.sparql_tokens.specs.Pieces.{IsWithin};
 ghost use Rattle.sparql_tokens.specs.Table.{goes_on};
 
-use crate::classes::{is_digit, is_letter, is_part, is_start, is_tag_part};
+use crate::classes::{is_base, is_digit, is_letter, is_part, is_start, is_tag_part};
 use crate::escapes::escaped_len;
 use crate::runs::{head, letters_len, variable_len, word_len};
 use crate::words::word_of;
@@ -247,6 +248,70 @@ fn to_colon(chars: &[char]) -> Option<usize>
     None
 }
 
+// The same, where it may be known that no colon ends a prefix here.
+fn colon_ahead(chars: &[char], nameless: bool) -> Option<usize>
+    requires { IsTrue nameless → to_colon chars.now ≡ None }
+    ensures value { result ≡ to_colon chars.now }
+    ensures within { IfSome result (λ n. n < length chars.now) }
+{
+    if nameless { None } else { to_colon(chars) }
+}
+
+// From how many of the first characters no prefix of a name begins.
+#[tactic(auto, using(crate::specs::Nameless::nameless_paths))]
+fn nameless_run(chars: &[char]) -> usize
+    ensures { IsNameless result chars.now }
+{
+    let mut at = 0;
+    let mut rest = chars;
+    'chars: while let Some((first, after)) = rest.split_first() {
+        if *first == ':' {
+            return 0;
+        }
+        if !goes_on(*first, after) {
+            return at;
+        }
+        at += 1;
+        rest = after;
+    }
+    at
+}
+
+// The same, where a name or a word begins in front.
+#[tactic(auto, using(crate::specs::Nameless::nameless_paths))]
+fn nameless_len(chars: &[char]) -> usize
+    ensures { IsNameless result chars.now }
+{
+    if is_base(head(chars)) {
+        nameless_run(chars)
+    } else {
+        0
+    }
+}
+
+/// From how many of the first characters no prefix of a name begins, where it may be known of some of them. So each character
+/// is looked at once for all the words of one run.
+pub(crate) fn nameless_still(chars: &[char], known: usize) -> usize
+    requires { IsNameless known chars.now }
+    ensures { IsNameless result chars.now }
+{
+    if known > 0 {
+        known
+    } else {
+        nameless_len(chars)
+    }
+}
+
+/// What of these characters is left where the text goes on.
+#[tactic(auto, using(crate::specs::Nameless::left_names))]
+pub(crate) fn nameless_left(known: usize, chars: &[char], next: &[char]) -> usize
+    requires known { IsNameless known chars.now }
+    requires behind { IsEnd next.now chars.now }
+    ensures { IsNameless result next.now }
+{
+    known.saturating_sub(chars.len() - next.len())
+}
+
 /// The word in front.
 #[tactic(auto, unfolding(fragment_meaning::specs::Tokens::word_at))]
 fn word_at(chars: &[char]) -> Option<Found>
@@ -261,12 +326,17 @@ fn word_at(chars: &[char]) -> Option<Found>
     })
 }
 
-/// A name where a colon ends its prefix, else a word.
-pub(crate) fn name_or_word(alloc: Global, chars: &[char]) -> Result<Option<Found>, AllocError>
+/// A name where a colon ends its prefix, else a word; it may be known that no colon does.
+pub(crate) fn name_or_word(
+    alloc: Global,
+    chars: &[char],
+    nameless: bool,
+) -> Result<Option<Found>, AllocError>
+    requires { IsTrue nameless → to_colon chars.now ≡ None }
     ensures value { IfOk result (λ f. f ≡ name_or_word chars.now (to_colon chars.now)) }
     ensures within { IfOk result (IsWithin (length chars.now)) }
 {
-    match to_colon(chars) {
+    match colon_ahead(chars, nameless) {
         Some(n) => named_at(alloc, &chars[..n], &chars[n + 1..]),
         None => {
             if is_letter(head(chars)) {

@@ -1,7 +1,7 @@
 //! The token at a place.
 
-ghost use Rattle.std.specs.Prelude.{◌≡◌, ℕ, length, IfOk};
-ghost use Rattle.fragment_meaning.specs.Tokens.{or_else, token_at};
+ghost use Rattle.std.specs.Prelude.{◌≡◌, ℕ, length, IfOk, IsTrue, None};
+ghost use Rattle.fragment_meaning.specs.Tokens.{or_else, to_colon, token_at};
 ghost use Rattle.sparql_tokens.specs.Pieces.{IsWithin};
 
 use crate::classes::is_base;
@@ -22,9 +22,14 @@ fn or_else(first: Option<Found>, second: Option<Found>) -> Option<Found>
     }
 }
 
-/// The token that begins in front, at its longest.
+/// The token that begins in front, at its longest; it may be known that it is no name with a prefix.
 #[tactic(auto, unfolding(fragment_meaning::specs::Tokens::token_at))]
-pub(crate) fn token_at(alloc: Global, chars: &[char]) -> Result<Option<Found>, AllocError>
+pub(crate) fn token_at(
+    alloc: Global,
+    chars: &[char],
+    nameless: bool,
+) -> Result<Option<Found>, AllocError>
+    requires { IsTrue nameless → to_colon chars.now ≡ None }
     ensures value { IfOk result (λ f. f ≡ token_at chars.now) }
     ensures within { IfOk result (IsWithin (length chars.now)) }
 {
@@ -44,7 +49,7 @@ pub(crate) fn token_at(alloc: Global, chars: &[char]) -> Result<Option<Found>, A
     } else if *first == '_' {
         blank_at(alloc, rest)
     } else if is_base(*first) {
-        name_or_word(alloc, chars)
+        name_or_word(alloc, chars, nameless)
     } else {
         Ok(or_else(number_at(alloc, chars)?, mark_at(chars)))
     }

@@ -1,0 +1,5 @@
+//! Tests of binding.
+#![tactic(auto)]
+
+#[cfg(test)]
+mod faults;

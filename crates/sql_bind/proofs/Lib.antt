@@ -1,0 +1,10 @@
+pub mod BodySteps
+pub mod Fronts
+pub mod ItemSteps
+pub mod JoinSteps
+pub mod KeySteps
+pub mod NameSteps
+pub mod SchemaSteps
+pub mod ScriptSteps
+pub mod SelectSteps
+pub mod SourceSteps

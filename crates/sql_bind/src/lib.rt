@@ -1,0 +1,19 @@
+//! Binding: a script's names are found and its kinds fit, or its first fault is told.
+#![tactic(auto)]
+
+mod bodies;
+mod items;
+mod names;
+mod refusal;
+mod rest;
+mod scripts;
+mod selects;
+mod sources;
+
+pub use bound_forms::Bound;
+pub use bound_scripts::{
+    BoundBody, BoundBranch, BoundCore, BoundExpr, BoundJoin, BoundKey, BoundScript,
+};
+pub use refusal::BindRefusal;
+pub use scripts::bind;
+pub use sql_rows_meaning::NamedSchema;

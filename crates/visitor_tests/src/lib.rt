@@ -1,0 +1,5 @@
+//! Tests of visitors on worked scripts.
+#![tactic(auto)]
+
+#[cfg(test)]
+mod walks;

@@ -9,7 +9,7 @@ ghost use Rattle.translation_laws.specs.TreePatterns.{tree_patterns};
 ghost use Rattle.fragment_laws.specs.Numbers.{NumberedFrom};
 ghost use Rattle.fragment_laws.specs.Within.{Within, state_behind};
 
-/// A text without a fault has passed no limit behind its last token.
+/// A text without a fault is within its limits behind its last token.
 // For the counts of what the text's query is made of.
 pub fn texts_stay_within()
     ensures { (ts : List Token) → first_fault ts ≡ None → Within (state_behind nothing_yet ts) }

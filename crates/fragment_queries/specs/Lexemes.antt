@@ -48,7 +48,7 @@ variable_number names n = if nat_lt (place_of names n) 64 then place_of names n 
 
 -- ---- numbers
 
--- what is no digit counts for nothing: no integer has such a character behind its sign
+-- what is no digit counts as the digit 0: no integer has such a character behind its sign
 abbrev pub digit : ℕ → ℕ
 digit c = if is_digit c then c - 48 else 0
 

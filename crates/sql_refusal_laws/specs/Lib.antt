@@ -1,0 +1,3 @@
+pub mod EachCut
+pub mod EachText
+pub mod EachAnswer

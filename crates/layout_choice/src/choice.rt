@@ -1,37 +1,60 @@
 //! The columns of both sides, and how the known ones are found.
 
 ghost use Rattle.std.specs.Prelude.{◌≡◌, ◌≢◌, IfOk, IfErr, OnOk, None, Some};
-ghost use Rattle.layout_choice.specs.Chosen.{layout_chosen, refusal_chosen};
+ghost use Rattle.layout_choice.specs.Chosen.{choice_made, refusal_chosen, colours_bulk};
 
-use pred_columns::{ColourPair, ColumnRefusal, Columns};
+use crate::pairs::known_pairs;
+use colouring_lines::ColourLine;
+use pred_columns::{ColumnRefusal, Columns};
+use rdf_terms::SideName;
 use std::alloc::Global;
 use std::marker::Model;
 
 /// How the known columns of predicates are found.
 #[derive(Debug, Drop)]
 pub enum ColourWay {
+    /// The predicates of a bulk are coloured, on each side for itself.
+    Greedy,
     /// No column is known: each predicate has the columns of its hashes.
     HashOnly,
+    /// These columns are known, each on its side.
+    Given(Vec<ColourLine>),
 }
 
-/// The columns of both sides.
+/// The columns of both sides, and whether those of a bulk's predicates are coloured.
 #[derive(Drop)]
 pub struct LayoutChoice {
     direct: Columns,
     reverse: Columns,
+    hashes: u32,
+    greedy: bool,
 }
 
 impl Model for LayoutChoice {
-    ghost use Rattle.standing_meaning.specs.Schemas.{LayoutOf};
+    ghost use Rattle.std.specs.Prelude.{◌≡◌};
+    ghost use Rattle.columns_meaning.specs.Layouts.{ChoiceOf};
 
-    ghost Value = { LayoutOf };
+    ghost Value = { ChoiceOf };
 
-    ghost view = { λ c. record { direct = c.direct; reverse = c.reverse } };
+    ghost view = { λ c. record { direct = c.direct; reverse = c.reverse; greedy = c.greedy } };
+
+    ghost invariant = { λ c. (c.hashes ≡ c.direct.hashes) × (c.hashes ≡ c.reverse.hashes) };
+}
+
+fn colours_bulk(way: &ColourWay) -> bool
+    ensures { result ≡ colours_bulk way.now }
+{
+    match way {
+        ColourWay::Greedy => true,
+        ColourWay::HashOnly => false,
+        ColourWay::Given(_lines) => false,
+    }
 }
 
 impl LayoutChoice {
-    /// A layout with this many direct and reverse columns, 1 to 32, and this many hashes, 1 to 4. It is
-    /// refused where the columns of the direct side are, else where those of the reverse side are.
+    /// A layout with this many direct and reverse columns, 1 to 32, and this many hashes, 1 to 4, whose known
+    /// columns are found in this way. It is refused where the columns of the direct side are, else where
+    /// those of the reverse side are.
     pub fn new(
         alloc: Global,
         direct: u32,
@@ -39,29 +62,48 @@ impl LayoutChoice {
         hashes: u32,
         way: ColourWay,
     ) -> Result<LayoutChoice, ColumnRefusal>
-        ensures made { IfOk result (λ choice. choice ≡ layout_chosen direct reverse hashes way) }
+        ensures made { IfOk result (λ choice. choice ≡ choice_made direct reverse hashes way) }
         ensures good { OnOk result (refusal_chosen direct reverse hashes way ≡ None) }
         ensures refused { IfErr result (λ e. e ≢ ColumnRefusal.NoMemory → refusal_chosen direct reverse hashes way ≡ Some e) }
     {
-        let known: [ColourPair; 0] = match way {
-            ColourWay::HashOnly => [],
-        };
-        let direct = Columns::new(alloc, direct, hashes, known.as_slice())?;
-        let reverse = Columns::new(alloc, reverse, hashes, known.as_slice())?;
-        Ok(LayoutChoice { direct, reverse })
+        let direct_pairs = known_pairs(alloc, &way, SideName::Direct)?;
+        let reverse_pairs = known_pairs(alloc, &way, SideName::Reverse)?;
+        let direct = Columns::new(alloc, direct, hashes, direct_pairs.as_slice())?;
+        let reverse = Columns::new(alloc, reverse, hashes, reverse_pairs.as_slice())?;
+        Ok(LayoutChoice {
+            direct,
+            reverse,
+            hashes,
+            greedy: colours_bulk(&way),
+        })
     }
 
-    /// The columns of the direct side.
+    /// The columns of the direct side, as far as they are known before a bulk.
     pub fn direct(&self) -> &Columns
         ensures { result.now ≡ self.now.direct }
     {
         &self.direct
     }
 
-    /// The columns of the reverse side.
+    /// The columns of the reverse side, as far as they are known before a bulk.
     pub fn reverse(&self) -> &Columns
         ensures { result.now ≡ self.now.reverse }
     {
         &self.reverse
+    }
+
+    /// How many hashes each side has.
+    pub fn hashes(&self) -> u32
+        ensures direct { result ≡ self.now.direct.hashes }
+        ensures reverse { result ≡ self.now.reverse.hashes }
+    {
+        self.hashes
+    }
+
+    /// Whether the columns of a bulk's predicates are coloured.
+    pub fn is_greedy(&self) -> bool
+        ensures { result ≡ self.now.greedy }
+    {
+        self.greedy
     }
 }

@@ -2,5 +2,8 @@
 #![tactic(auto)]
 
 mod choice;
+mod laws;
+mod pairs;
 
 pub use choice::{ColourWay, LayoutChoice};
+pub use laws::colours_that_fit_are_taken;

@@ -17,7 +17,7 @@ use term_book::TermBook;
 use value_lists::Lists;
 
 /// A value of an entity under a predicate, by ids.
-#[derive(Clone, Copy, Debug, PartialEq, Eq)]
+#[derive(Clone, Copy, Debug, PartialEq, Eq, Hash)]
 pub struct Placed {
     pub entity: u32,
     pub pred: u32,

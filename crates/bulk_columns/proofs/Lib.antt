@@ -1,0 +1,2 @@
+pub mod ByEntity
+pub mod Colours

@@ -1,0 +1,2 @@
+pub mod BulkColours
+pub mod Layouts

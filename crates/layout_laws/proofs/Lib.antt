@@ -1,0 +1,9 @@
+pub mod Graphs
+pub mod Rising
+pub mod Layouts
+pub mod Existing
+pub mod Counts
+pub mod Statistics
+pub mod Columns
+pub mod Stores
+pub mod Told

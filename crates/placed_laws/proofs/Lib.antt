@@ -1,2 +1,3 @@
+pub mod BulkLists
 pub mod Steps
 pub mod Same

@@ -1,5 +1,6 @@
--- Changes that are made one by one.
-use Rattle.std.proofs.Common.{◌≡◌, ℕ, suc, ◌+◌, ◌≤◌, Bool, true, false, if◌then◌else◌, List, [], ◌∷◌, ◌++◌, map, fold, length, refl, sym, ap, ◌∙◌, arith, subst}
+-- The bulk, and the changes that are made one by one after it.
+use Rattle.std.proofs.Common.{◌≡◌, ℕ, suc, ◌+◌, ◌≤◌, List, [], ◌∷◌, ◌++◌, map, fold, length, append-nil, refl, sym, ap, ◌∙◌, arith}
+use Rattle.std.proofs.lemmas.List.{length-append}
 use Rattle.std.proofs.lemmas.List.Sums.{fold-append, take_while-cons}
 use Rattle.rdf_meaning.specs.Terms.{RdfTerm, RdfTriple}
 use Rattle.line_meaning.specs.declared.change.Change.{Change}
@@ -10,9 +11,11 @@ use Rattle.layout_meaning.proofs.Changes.{next-placed, next-taken}
 use Rattle.standing_meaning.specs.Schemas.{LayoutOf}
 use Rattle.standing_meaning.specs.Sides.{turned}
 use Rattle.standing_meaning.specs.Stored.{StoreOf, layout_of}
-use Rattle.standing_meaning.specs.Changes.{with_terms, item_in, stored_in}
+use Rattle.standing_meaning.specs.Changes.{with_terms, item_in}
+use Rattle.bulk_laws.specs.BulkStore.{bulk_store}
 use Rattle.run_meaning.specs.Limits.{with_needed, terms_needed}
-use Rattle.placed_meaning.specs.Placed.{changed_in, bulk_store, store_without_triples, later_changes, placed_store}
+use Rattle.placed_meaning.specs.Placed.{changed_in, later_changes, placed_store}
+use Rattle.placed_laws.proofs.BulkLists.{direct-ids, reverse-ids}
 
 -- the bulk and the later changes
 pub parts : (changes : List Change) → map Add (map named (bulk changes)) ++ later_changes changes ≡ changes
@@ -22,20 +25,10 @@ parts (Add t ∷ changes) =
     ∙ ap (λ (l : List Change). Add t ∷ l) (parts changes)
 parts (Delete t ∷ changes) = ap (λ (l : List Change). map Add (map named l) ++ Delete t ∷ changes) (take_while-cons is_no_delete (Delete t) changes)
 
-pub bulk-steps : (s : StoreOf) (triples : List RdfTriple) → fold stored_in s triples ≡ fold changed_in s (map Add triples)
-bulk-steps s [] = refl
-bulk-steps s (t ∷ triples) = bulk-steps (stored_in s t) triples
-
-pub steps : (layout : LayoutOf) (triples : List RdfTriple) (later : List Change)
-    → fold changed_in (bulk_store layout triples) later ≡ fold changed_in (store_without_triples layout) (map Add triples ++ later)
-steps layout triples later =
-    ap (λ (s : StoreOf). fold changed_in s later) (bulk-steps (store_without_triples layout) triples)
-    ∙ sym (fold-append changed_in (store_without_triples layout) (map Add triples) later)
-
-pub placed-steps : (layout : LayoutOf) (changes : List Change) → placed_store layout changes ≡ fold changed_in (store_without_triples layout) changes
-placed-steps layout changes =
-    steps layout (map named (bulk changes)) (later_changes changes)
-    ∙ ap (λ (l : List Change). fold changed_in (store_without_triples layout) l) (parts changes)
+-- the terms of a bulk are those that its additions need
+pub bulk-terms : (terms : List RdfTerm) (triples : List RdfTriple) → fold with_terms terms triples ≡ fold with_needed terms (map Add triples)
+bulk-terms terms [] = refl
+bulk-terms terms (t ∷ triples) = bulk-terms (with_terms terms t) triples
 
 -- what each change keeps
 one-layout : (s : StoreOf) (c : Change) → layout_of (changed_in s c) ≡ layout_of s
@@ -53,6 +46,12 @@ one-terms s (Delete t) = refl
 pub fold-terms : (s : StoreOf) (changes : List Change) → (fold changed_in s changes).terms ≡ fold with_needed s.terms changes
 fold-terms s [] = refl
 fold-terms s (c ∷ changes) = fold-terms (changed_in s c) changes ∙ ap (λ (l : List RdfTerm). fold with_needed l changes) (one-terms s c)
+
+pub store-terms : (layout : LayoutOf) (triples : List RdfTriple) (later : List Change) → (fold changed_in (bulk_store layout triples) later).terms ≡ terms_needed (map Add triples ++ later)
+store-terms layout triples later =
+    fold-terms (bulk_store layout triples) later
+    ∙ ap (λ (l : List RdfTerm). fold with_needed l later) (bulk-terms [] triples)
+    ∙ sym (fold-append with_needed [] (map Add triples) later)
 
 -- each uses one list id at most
 pub one-direct_id : (s : StoreOf) (c : Change) → (changed_in s c).direct.state.next ≤ s.direct.state.next + 1
@@ -73,13 +72,53 @@ fold-reverse_id s (c ∷ changes) = let a = fold-reverse_id (changed_in s c) cha
 
 -- what holds of the store of all changes
 pub placed-layout : (layout : LayoutOf) (changes : List Change) → layout_of (placed_store layout changes) ≡ layout
-placed-layout layout changes = ap (λ (s : StoreOf). layout_of s) (placed-steps layout changes) ∙ fold-layout (store_without_triples layout) changes
+placed-layout layout changes = fold-layout (bulk_store layout (map named (bulk changes))) (later_changes changes)
 
 pub placed-terms : (layout : LayoutOf) (changes : List Change) → (placed_store layout changes).terms ≡ terms_needed changes
-placed-terms layout changes = ap (λ (s : StoreOf). s.terms) (placed-steps layout changes) ∙ fold-terms (store_without_triples layout) changes
+placed-terms layout changes = store-terms layout (map named (bulk changes)) (later_changes changes) ∙ ap (λ (l : List Change). terms_needed l) (parts changes)
+
+adds-length : (triples : List RdfTriple) → length (map Add triples) ≡ length triples
+adds-length [] = refl
+adds-length (t ∷ triples) = ap suc (adds-length triples)
+
+parts-length : (changes : List Change) → length (map named (bulk changes)) + length (later_changes changes) ≡ length changes
+parts-length changes =
+    let a = adds-length (map named (bulk changes)) in
+    let b = length-append (map Add (map named (bulk changes))) (later_changes changes) in
+    let c : length (map Add (map named (bulk changes)) ++ later_changes changes) ≡ length changes = ap (λ (l : List Change). length l) (parts changes) in
+    omega (arith, a, b, c)
 
 pub placed-direct_ids : (layout : LayoutOf) (changes : List Change) → (placed_store layout changes).direct.state.next ≤ length changes
-placed-direct_ids layout changes = subst (λ (s : StoreOf). s.direct.state.next ≤ length changes) (sym (placed-steps layout changes)) (let a = fold-direct_id (store_without_triples layout) changes in omega (arith, a))
+placed-direct_ids layout changes =
+    let a = fold-direct_id (bulk_store layout (map named (bulk changes))) (later_changes changes) in
+    let b = direct-ids layout (map named (bulk changes)) in
+    let c = parts-length changes in
+    omega (arith, a, b, c)
 
 pub placed-reverse_ids : (layout : LayoutOf) (changes : List Change) → (placed_store layout changes).reverse.state.next ≤ length changes
-placed-reverse_ids layout changes = subst (λ (s : StoreOf). s.reverse.state.next ≤ length changes) (sym (placed-steps layout changes)) (let a = fold-reverse_id (store_without_triples layout) changes in omega (arith, a))
+placed-reverse_ids layout changes =
+    let a = fold-reverse_id (bulk_store layout (map named (bulk changes))) (later_changes changes) in
+    let b = reverse-ids layout (map named (bulk changes)) in
+    let c = parts-length changes in
+    omega (arith, a, b, c)
+
+-- ---- what follows added triples
+
+named-front : (triples : List RdfTriple) (rest : List Change) → bulk rest ≡ [] → map named (bulk (map Add triples ++ rest)) ≡ triples
+named-front [] rest e = ap (λ (l : List Change). map named l) e
+named-front (t ∷ triples) rest e =
+    ap (λ (l : List Change). map named l) (take_while-cons is_no_delete (Add t) (map Add triples ++ rest)) ∙ ap (λ (l : List RdfTriple). t ∷ l) (named-front triples rest e)
+
+later-front : (triples : List RdfTriple) (rest : List Change) → later_changes (map Add triples ++ rest) ≡ later_changes rest
+later-front [] rest = refl
+later-front (t ∷ triples) rest = later-front triples rest
+
+behind : (layout : LayoutOf) (triples : List RdfTriple) (rest : List Change) → bulk rest ≡ [] → placed_store layout (map Add triples ++ rest) ≡ fold changed_in (bulk_store layout triples) (later_changes rest)
+behind layout triples rest e = λ i. fold changed_in (bulk_store layout (named-front triples rest e i)) (later-front triples rest i)
+
+pub nothing-behind : (layout : LayoutOf) (triples : List RdfTriple) → placed_store layout (map Add triples) ≡ bulk_store layout triples
+nothing-behind layout triples = ap (λ (l : List Change). placed_store layout l) (sym (append-nil (map Add triples))) ∙ behind layout triples [] refl
+
+pub deletion-behind : (layout : LayoutOf) (triples : List RdfTriple) (t : RdfTriple) (calls : List Change)
+    → placed_store layout (map Add triples ++ Delete t ∷ calls) ≡ fold changed_in (bulk_store layout triples) (Delete t ∷ calls)
+deletion-behind layout triples t calls = behind layout triples (Delete t ∷ calls) (take_while-cons is_no_delete (Delete t) calls)

@@ -1,3 +1,3 @@
 pub mod Placed
-pub mod Hashed
 pub mod StatsText
+pub mod Chosen

@@ -1,38 +1,25 @@
 -- The tables that a layout gives for a list of changes (this project's own).
-use Rattle.std.specs.Prelude.{ℕ, List, [], ◌∷◌, map, fold, if◌then◌else◌}
-use Rattle.rdf_meaning.specs.Terms.{RdfTriple}
+use Rattle.std.specs.Prelude.{List, [], ◌∷◌, map, fold, if◌then◌else◌}
 use Rattle.table_meaning.specs.Tables.{NamedTable}
 use Rattle.line_meaning.specs.declared.change.Change.{Change}
 use Rattle.line_meaning.specs.declared.change.Change.TheVariants.{Add, Delete}
 use Rattle.line_meaning.specs.Present.{named, is_delete, bulk}
-use Rattle.layout_meaning.specs.Columns.{ColumnsOf}
-use Rattle.layout_meaning.specs.Rows.{SideOf}
 use Rattle.standing_meaning.specs.Schemas.{LayoutOf}
 use Rattle.standing_meaning.specs.Stored.{StoreOf, tables_of}
 use Rattle.standing_meaning.specs.Changes.{stored_in, taken_out}
-
--- a side without rows, whose first list has the id -1
-abbrev pub side_without_rows : ColumnsOf → SideOf
-side_without_rows columns = record { columns = columns; state = record { entities = []; lists = []; next = 0 } }
-
-abbrev pub store_without_triples : LayoutOf → StoreOf
-store_without_triples layout = record { terms = []; direct = side_without_rows layout.direct; reverse = side_without_rows layout.reverse }
+use Rattle.bulk_laws.specs.BulkStore.{bulk_store}
 
 -- a store after a change: an added triple is put in, and a deleted one taken out
 abbrev pub changed_in : StoreOf → Change → StoreOf
 changed_in s (Add t) = stored_in s t
 changed_in s (Delete t) = taken_out s t
 
--- a store of triples that are loaded at once: they are put in in their order
-abbrev pub bulk_store : LayoutOf → List RdfTriple → StoreOf
-bulk_store layout triples = fold stored_in (store_without_triples layout) triples
-
 -- the changes from the first deletion on
 abbrev pub later_changes : List Change → List Change
 later_changes [] = []
 later_changes (change ∷ changes) = if is_delete change then change ∷ changes else later_changes changes
 
--- the bulk is loaded at once, and the later changes are made one by one
+-- the bulk is placed at once, and the later changes are made one by one
 abbrev pub placed_store : LayoutOf → List Change → StoreOf
 placed_store layout changes = fold changed_in (bulk_store layout (map named (bulk changes))) (later_changes changes)
 

@@ -23,7 +23,8 @@ use Rattle.list_order.proofs.Rising.{none-in_order, placed-in_order}
 use Rattle.rdf_layout.specs.declared.refusal.StoreRefusal.{StoreRefusal}
 use Rattle.rdf_layout.specs.declared.refusal.StoreRefusal.TheVariants.{Triples, Terms, Lists, NoMemory}
 use Rattle.rdf_layout.specs.Refused.{Refuses, HasRoom}
-use Rattle.rdf_layout.specs.Bulk.{empty_sides, empty_store, each_once, terms_of, loaded, refusal_behind, or_later, refusal_from, IsLoaded}
+use Rattle.bulk_laws.specs.BulkStore.{each_once, terms_of}
+use Rattle.rdf_layout.specs.Bulk.{empty_sides, empty_store, loaded, refusal_behind, or_later, refusal_from, IsLoaded}
 
 -- no triples
 pub loaded-none : (layout : LayoutOf) → AreSides (empty_sides layout) → IsLoaded (empty_store layout) [] (empty_store layout)
@@ -48,7 +49,7 @@ loaded-none layout sides = record {
   in_order = none-in_order (empty_sides layout) refl refl;
 }
 
-once-more : (seen : List RdfTriple) (t : RdfTriple) → each_once (seen ++ t ∷ []) ≡ with_triple (each_once seen) t
+pub once-more : (seen : List RdfTriple) (t : RdfTriple) → each_once (seen ++ t ∷ []) ≡ with_triple (each_once seen) t
 once-more seen t = fold-append with_triple [] seen (t ∷ [])
 
 terms-more : (seen : List RdfTriple) (t : RdfTriple) → terms_of (seen ++ t ∷ []) ≡ with_terms (terms_of seen) t
@@ -57,7 +58,7 @@ terms-more seen t = fold-append with_terms [] seen (t ∷ [])
 loaded-more : (start : StoreOf) (seen : List RdfTriple) (t : RdfTriple) → loaded start (seen ++ t ∷ []) ≡ stored_in (loaded start seen) t
 loaded-more start seen t = fold-append stored_in start seen (t ∷ [])
 
-seen-same : (start s : StoreOf) (seen : List RdfTriple) (t : RdfTriple) → IsLoaded start seen s → list_any (same_triple t) (each_once seen) ≡ is_stored s t
+pub seen-same : (start s : StoreOf) (seen : List RdfTriple) (t : RdfTriple) → IsLoaded start seen s → list_any (same_triple t) (each_once seen) ≡ is_stored s t
 seen-same start s seen t h = sym (same-any (same_triple t) (stored_triples s) (each_once seen) h.triples)
 
 -- a triple that is stored
@@ -193,7 +194,7 @@ pub refused-step : (start s : StoreOf) (seen later : List RdfTriple) (t : RdfTri
 refused-step start s seen later t e h r n = ap (λ (o : Option StoreRefusal). or_later o (refusal_from (seen ++ t ∷ []) later)) (refused-behind start s seen t e h n r)
 
 -- a turn of the loop
-taken-on : (ts : List RdfTriple) (i : ℕ) (t : RdfTriple) → i < length ts → t ≡ get_or ts i t → take (i + 1) ts ≡ take i ts ++ t ∷ []
+pub taken-on : (ts : List RdfTriple) (i : ℕ) (t : RdfTriple) → i < length ts → t ≡ get_or ts i t → take (i + 1) ts ≡ take i ts ++ t ∷ []
 taken-on ts i t l e = take_more ts i t l ∙ ap (λ (u : RdfTriple). take i ts ++ u ∷ []) (sym e)
 
 left-on : (ts : List RdfTriple) (i : ℕ) (t : RdfTriple) → i < length ts → t ≡ get_or ts i t → drop i ts ≡ t ∷ drop (i + 1) ts

@@ -1,37 +1,25 @@
--- Triples that are loaded: what a store of them holds, and the first one that is refused (this project's own).
+-- Triples that are put in one after another: what a store of them holds, and the first one that is refused (this project's own).
 use Rattle.std.specs.Prelude.{◌≡◌, ℕ, ◌≤◌, nat_le, nat_lt, if◌then◌else◌, List, [], ◌∷◌, ◌++◌, fold, length, Option, Some, None}
 use Rattle.std.specs.List.{list_any}
 use Rattle.bags.specs.Bag.{SameBag}
-use Rattle.rdf_meaning.specs.Terms.{RdfTerm, RdfTriple, same_triple}
-use Rattle.line_meaning.specs.Present.{with_triple}
-use Rattle.layout_meaning.specs.Columns.{ColumnsOf}
-use Rattle.layout_meaning.specs.Rows.{SideOf}
+use Rattle.rdf_meaning.specs.Terms.{RdfTriple, same_triple}
 use Rattle.standing_meaning.specs.Schemas.{LayoutOf}
 use Rattle.standing_meaning.specs.Sides.{SidesOf}
 use Rattle.standing_meaning.specs.Stored.{StoreOf, IsStore, sides_of, stored_triples}
 use Rattle.standing_meaning.specs.Changes.{with_terms, stored_in, store_of}
 use Rattle.list_order.specs.InOrder.{AreInOrder}
+use Rattle.bulk_laws.specs.BulkStore.{each_once, terms_of}
+use Rattle.bulk_meaning.specs.Bulk.{empty_side}
 use Rattle.rdf_layout.specs.declared.refusal.StoreRefusal.{StoreRefusal}
 use Rattle.rdf_layout.specs.declared.refusal.StoreRefusal.TheVariants.{Triples, Terms}
 
--- a side without rows, whose first list has the id -1
-abbrev pub empty_side : ColumnsOf → SideOf
-empty_side columns = record { columns = columns; state = record { entities = []; lists = []; next = 0 } }
-
+-- two sides without rows
 abbrev pub empty_sides : LayoutOf → SidesOf
 empty_sides layout = record { direct = empty_side layout.direct; reverse = empty_side layout.reverse }
 
 -- a store without triples
 abbrev pub empty_store : LayoutOf → StoreOf
 empty_store layout = store_of [] (empty_sides layout)
-
--- the triples, each once
-abbrev pub each_once : List RdfTriple → List RdfTriple
-each_once triples = fold with_triple [] triples
-
--- the terms of the triples, each once, in order of first need: subject, predicate, object
-abbrev pub terms_of : List RdfTriple → List RdfTerm
-terms_of triples = fold with_terms [] triples
 
 -- a store after triples were put in one after another
 abbrev pub loaded : StoreOf → List RdfTriple → StoreOf

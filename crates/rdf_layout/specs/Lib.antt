@@ -1,2 +1,4 @@
 pub mod Refused
 pub mod Bulk
+pub mod Gathered
+pub mod OneRow

@@ -1,7 +1,10 @@
 //! The store: a dictionary and two sides, whose tables stand for a set of triples.
 #![tactic(auto)]
 
-mod loading;
+mod bulk;
+mod facts;
+mod gathering;
+mod item_set;
 mod refusal;
 mod stats;
 mod steps;
@@ -9,6 +12,7 @@ mod store;
 
 pub use layout_choice::{ColourWay, LayoutChoice};
 pub use layout_tables::Tables;
+pub use pred_columns::{ConstCount, Counts, LayoutFacts, QueryIds};
 pub use primary_rows::Took;
 pub use refusal::StoreRefusal;
 pub use stats::{SideStats, Stats};

@@ -1,6 +1,6 @@
 //! The store.
 
-ghost use Rattle.std.specs.Prelude.{◌≡◌, ◌≢◌, [], ◌∷◌, if◌then◌else◌, IfOk, IfErr, OnOk, OnErr, Ok, None, Some};
+ghost use Rattle.std.specs.Prelude.{◌≡◌, ◌≢◌, true, [], ◌∷◌, if◌then◌else◌, IfOk, IfErr, OnOk, OnErr, Ok, None, Some};
 ghost use Rattle.bags.specs.Bag.{SameBag};
 ghost use Rattle.value_lists.specs.Answers.{put_of};
 ghost use Rattle.primary_rows.specs.Answers.{took_of};
@@ -9,20 +9,31 @@ ghost use Rattle.standing_meaning.specs.Standing.{StandsFor};
 ghost use Rattle.standing_meaning.specs.Stored.{IsStore, layout_of, tables_of, stored_triples};
 ghost use Rattle.standing_meaning.specs.Changes.{is_stored, stored_in, taken_out, IsRefused};
 ghost use Rattle.stats_meaning.specs.Statistics.{AreStats, AreSideStats};
+ghost use Rattle.store_facts.specs.Facts.{AreFacts, AreIds};
+ghost use Rattle.counts_meaning.specs.Counts.{AreCounts};
 ghost use Rattle.layout_tables.specs.RowOrder.{StandInOrder};
 ghost use Rattle.rdf_layout.specs.Refused.{Refuses, HasRoom};
-ghost use Rattle.rdf_layout.specs.Bulk.{empty_store, empty_sides, each_once, terms_of, loaded, refusal_from};
+ghost use Rattle.bulk_laws.specs.BulkStore.{each_once, terms_of, bulk_items, bulk_store};
+ghost use Rattle.columns_meaning.specs.Layouts.{IsLayoutFor};
+ghost use Rattle.rdf_layout.specs.Bulk.{refusal_from};
+ghost use Rattle.rdf_layout.specs.OneRow.{ColouredHaveOneRow};
 
-use crate::loading::put_all;
+use crate::bulk::sides_of;
+use crate::facts::facts_of;
+use crate::gathering::gather_all;
+use crate::item_set::ItemSet;
 use crate::refusal::StoreRefusal;
 use crate::stats::{SideStats, Stats};
 use crate::steps::{put, take};
 use layout_choice::LayoutChoice;
 use layout_tables::{Tables, tables_of};
+use pred_columns::{Counts, LayoutFacts, QueryIds};
 use primary_rows::{Side, Took};
-use rdf_terms::Triple;
+use rdf_terms::{Term, Triple};
 use std::alloc::{AllocError, Global};
 use std::marker::Model;
+use store_counts::{counts_of, stores_count};
+use store_facts::{ids_of, stores_tell};
 use term_book::TermBook;
 use triple_sides::TripleSides;
 use value_lists::Put;
@@ -59,37 +70,33 @@ fn side_stats(side: &Side) -> SideStats
     }
 }
 
-/// Two sides without rows.
-fn empty_sides(alloc: Global, choice: &LayoutChoice) -> Result<TripleSides, AllocError>
-    ensures { IfOk result (λ s. s ≡ empty_sides choice.now) }
-{
-    let direct = choice.direct().copy(alloc)?;
-    let reverse = choice.reverse().copy(alloc)?;
-    Ok(TripleSides::new(alloc, direct, reverse))
-}
-
 impl Store {
-    /// A store of these triples, of which repeats count once: they are put in one after another. It is
-    /// refused exactly where, at the first triple that is refused, 1,000,000 triples are stored and this one
-    /// is new, or else where its terms would pass 4,000,000. The number of pieces changes nothing.
+    /// A store of these triples, of which repeats count once. The terms get their ids in order of first need.
+    /// Each side has the columns that were chosen, with the colours of the triples where they are to be
+    /// coloured, and places its items at once: entity by entity, with list ids from -1 downwards by rising
+    /// entity, row number and column. Where the triples are coloured, an entity whose predicates all have a
+    /// colour has no row but its first. The load is refused exactly where, at the first triple that is refused, 1,000,000
+    /// triples are stored and this one is new, or else where its terms would pass 4,000,000. The number of
+    /// pieces changes nothing.
     pub fn load(
         alloc: Global,
         triples: &[Triple],
         choice: &LayoutChoice,
         pieces: u32,
     ) -> Result<Store, StoreRefusal>
-        ensures layout { IfOk result (λ s. layout_of s ≡ choice.now) }
+        ensures layout { IfOk result (λ s. IsLayoutFor choice.now (terms_of triples.now) (bulk_items triples.now) (layout_of s)) }
         ensures triples { IfOk result (λ s. SameBag (stored_triples s) (each_once triples.now)) }
         ensures terms { IfOk result (λ s. s.terms ≡ terms_of triples.now) }
-        ensures placed { IfOk result (λ s. s ≡ loaded (empty_store choice.now) triples.now) }
+        ensures placed { IfOk result (λ s. s ≡ bulk_store (layout_of s) triples.now) }
         ensures store { IfOk result IsStore }
+        ensures one_row { IfOk result (λ s. choice.now.greedy ≡ true → ColouredHaveOneRow s) }
         ensures good { OnOk result (refusal_from [] triples.now ≡ None) }
         ensures refused { IfErr result (λ e. e ≢ StoreRefusal.NoMemory → refusal_from [] triples.now ≡ Some e) }
     {
-        let _ = pieces;
         let mut book = TermBook::new(alloc);
-        let mut sides = empty_sides(alloc, choice)?;
-        put_all(&mut book, &mut sides, alloc, triples)?;
+        let mut found = ItemSet::new(alloc);
+        gather_all(&mut book, &mut found, alloc, triples)?;
+        let sides = sides_of(alloc, found.as_slice(), &book, choice, pieces)?;
         Ok(Store { book, sides })
     }
 
@@ -130,6 +137,32 @@ impl Store {
         ensures order { IfOk result (λ tables. StandInOrder (layout_of self.now) (contents_of self.now.direct.state self.now.reverse.state self.now.terms) tables) }
     {
         tables_of(alloc, &self.book, &self.sides)
+    }
+
+    /// The columns of both sides, and which of given predicates are spilled on each: those that some entity
+    /// holds in a row numbered above 0, in the order given, each once.
+    pub fn facts(&self, alloc: Global, preds: &[Term]) -> Result<LayoutFacts, AllocError>
+        ensures { IfOk result (λ facts. AreFacts (layout_of self.now) (tables_of self.now) (stored_triples self.now) preds.now facts) }
+    {
+        stores_tell();
+        facts_of(alloc, &self.book, &self.sides, preds)
+    }
+
+    /// Given terms with the ids that they have in the table TERM, or 0, in the order given.
+    pub fn ids(&self, alloc: Global, terms: &[Term]) -> Result<QueryIds, AllocError>
+        ensures { IfOk result (λ ids. AreIds (layout_of self.now) (tables_of self.now) (stored_triples self.now) terms.now ids) }
+    {
+        stores_tell();
+        ids_of(alloc, &self.book, terms)
+    }
+
+    /// How many triples, distinct subjects and distinct objects are stored, and in how many triples each of
+    /// the given terms is the subject and the object, in the order given.
+    pub fn counts(&self, alloc: Global, terms: &[Term]) -> Result<Counts, AllocError>
+        ensures { IfOk result (λ counts. AreCounts (layout_of self.now) (tables_of self.now) (stored_triples self.now) terms.now counts) }
+    {
+        stores_count();
+        counts_of(alloc, &self.book, &self.sides, terms)
     }
 
     /// What is counted of the store's tables, without a walk of them. It takes no memory.

@@ -55,6 +55,14 @@ impl TripleSides {
         }
     }
 
+    /// Both sides as they are; the reverse side holds the items of the direct side, turned.
+    pub fn of(direct: Side, reverse: Side) -> TripleSides
+        requires { AreSides (record { direct = direct; reverse = reverse }) }
+        ensures { result ≡ record { direct = direct; reverse = reverse } }
+    {
+        TripleSides { direct, reverse }
+    }
+
     /// Puts a triple into both sides; its predicate has this IRI. There comes exactly where it is held.
     /// ListsFull comes exactly where a side needs a list after the last list id was given out. After an
     /// error the rows and lists are as before, and at most one list id is used up.

@@ -1,0 +1,94 @@
+//! Rows of coloured tables, cell by cell.
+
+use crate::steps::store_of;
+use rdf_layout::Store;
+use rel_cells::{TableSet, write_cell};
+use std::alloc::{AllocError, Global};
+use std::test::Fail;
+
+// Puts the cells of a row behind a text, a blank before each.
+fn push_row<T: TableSet>(
+    text: &mut Vec<u8>,
+    tables: &T,
+    t: usize,
+    row: usize,
+) -> Result<(), AllocError> {
+    if t < tables.tables() && row < tables.rows(t) {
+        for col in 0..tables.schema(t).columns().len() {
+            text.push(b' ')?;
+            write_cell(tables.cell_at(t, row, col), text)?;
+        }
+        text.push(b'\n')?;
+    }
+    Ok(())
+}
+
+fn rows_text<T: TableSet>(alloc: Global, tables: &T, t: usize) -> Result<Vec<u8>, AllocError> {
+    let mut text = Vec::new(alloc);
+    if t < tables.tables() {
+        for row in 0..tables.rows(t) {
+            push_row(&mut text, tables, t, row)?;
+        }
+    }
+    Ok(text)
+}
+
+fn table_text(alloc: Global, store: &Store, t: usize) -> Result<Vec<u8>, AllocError> {
+    let tables = store.tables(alloc)?;
+    rows_text(alloc, &tables, t)
+}
+
+const TWO: &str = "<u:a> <u:p> \"1\" .\n<u:a> <u:q> \"2\" .\n";
+
+const THREE: &str = "<u:a> <u:p> \"1\" .\n<u:a> <u:q> \"2\" .\n<u:a> <u:r> \"3\" .\n";
+
+// The rare predicate has more neighbours, so it takes the first column; the others follow by their ids.
+const STAR: &str =
+    "<u:a> <u:p> \"1\" .\n<u:a> <u:r> \"2\" .\n<u:b> <u:q> \"3\" .\n<u:b> <u:r> \"4\" .\n";
+
+// The direct rows of stores, by their bulks, later changes, direct columns and ways of colouring.
+const ROWS: [(&str, &str, u32, &str, &str); 8] = [
+    (
+        TWO,
+        "",
+        2,
+        "D <u:p> 1\nD <u:q> 1\n",
+        " 1 0 2 3 . .\n 1 1 4 5 . .\n",
+    ),
+    // The row that became empty goes, and the later one closes up.
+    (
+        TWO,
+        "D <u:a> <u:p> \"1\" .\n",
+        2,
+        "D <u:p> 1\nD <u:q> 1\n",
+        " 1 0 4 5 . .\n",
+    ),
+    (
+        TWO,
+        "",
+        2,
+        "D <u:q> 1\nD <u:p> 2\nR <u:p> 1\n",
+        " 1 0 4 5 2 3\n",
+    ),
+    (TWO, "", 2, "greedy", " 1 0 2 3 4 5\n"),
+    // The third predicate has no colour, and goes by its hashes.
+    (THREE, "", 2, "greedy", " 1 0 2 3 4 5\n 1 1 6 7 . .\n"),
+    (THREE, "", 3, "greedy", " 1 0 2 3 4 5 6 7\n"),
+    (STAR, "", 2, "greedy", " 1 0 4 5 2 3\n 6 0 4 9 7 8\n"),
+    // Only the bulk is coloured.
+    ("", TWO, 1, "greedy", " 1 0 2 3\n 1 1 4 5\n"),
+];
+
+#[test]
+fn coloured_rows_stand(rt: HostRuntime) -> Result<(), Fail> {
+    let alloc = rt.alloc();
+    for (bulk, later, direct, way, want) in ROWS {
+        let store = store_of(alloc, bulk, later, direct, way)?;
+        assert_eq!(rt;
+            table_text(alloc, &store, 0)?.as_slice(),
+            want.as_bytes(),
+            "{way}"
+        );
+    }
+    Ok(())
+}

@@ -1,0 +1,9 @@
+use Rattle.std.proofs.Common.{◌∙◌, ap, List}
+use Rattle.layout_meaning.specs.Side.{Item}
+use Rattle.shredder.specs.Items.{item_of}
+use Rattle.rdf_layout.specs.Gathered.{is_among}
+use Rattle.rdf_layout.proofs.Keys.{among-keys}
+use Rattle.rdf_layout.proofs.item_set.ItemSet.has.Goals as goal
+
+pub returns : goal.returns
+returns c = c.contains.ensures ∙ among-keys c.args.item c.self.inside.placed.keys ∙ ap (λ (xs : List Item). is_among xs (item_of c.args.item)) c.self.view_is

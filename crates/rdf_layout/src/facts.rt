@@ -1,0 +1,33 @@
+//! What is told of the tables of a dictionary and two sides.
+
+ghost use Rattle.std.specs.Prelude.{◌≡◌, IfOk};
+ghost use Rattle.std.specs.List.{IsDistinct};
+ghost use Rattle.rdf_meaning.specs.Terms.{same_term};
+ghost use Rattle.standing_meaning.specs.Changes.{store_of};
+ghost use Rattle.store_facts.specs.Facts.{store_facts};
+
+use pred_columns::{LayoutFacts, Spilled};
+use rdf_terms::Term;
+use std::alloc::{AllocError, Global};
+use store_facts::spilled_among;
+use term_book::TermBook;
+use triple_sides::TripleSides;
+
+/// The columns of both sides, and which of given predicates are spilled on each.
+pub(crate) fn facts_of(
+    alloc: Global,
+    book: &TermBook,
+    sides: &TripleSides,
+    preds: &[Term],
+) -> Result<LayoutFacts, AllocError>
+    requires { IsDistinct same_term book.now }
+    ensures { IfOk result (λ facts. facts ≡ store_facts (store_of book.now sides.now) preds.now) }
+{
+    let direct = spilled_among(alloc, book, sides.direct(), preds)?;
+    let reverse = spilled_among(alloc, book, sides.reverse(), preds)?;
+    Ok(LayoutFacts {
+        direct: sides.direct().columns().copy(alloc)?,
+        reverse: sides.reverse().columns().copy(alloc)?,
+        spilled: Spilled { direct, reverse },
+    })
+}

@@ -1,0 +1,5 @@
+use Rattle.store_counts.proofs.Constants.{tables-counted}
+use Rattle.store_counts.proofs.laws.stores_count.Goals as goal
+
+pub returns : goal.returns
+returns c = tables-counted

@@ -1,0 +1,9 @@
+//! What is counted of the triples of a dictionary and two sides.
+#![tactic(auto)]
+
+mod counts;
+mod entities;
+mod laws;
+
+pub use counts::counts_of;
+pub use laws::stores_count;

@@ -1,0 +1,8 @@
+use Rattle.std.proofs.Common.{◌≡◌, take}
+use Rattle.standing_meaning.specs.Dictionary.{entries_of}
+use Rattle.standing_meaning.specs.Contents.{side_contents}
+use Rattle.store_facts.specs.Facts.{spilled_among}
+use Rattle.store_facts.proofs.spilled.spilled_among.Given as goal
+
+abbrev pub invariant-loop-at : goal.invariant-loop-at
+invariant-loop-at l = l.kept.items ≡ spilled_among (entries_of l.book) (side_contents l.side.state) (take l.at l.preds)

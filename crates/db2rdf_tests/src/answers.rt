@@ -1,5 +1,4 @@
 use crate::runs::{run_on, shelf};
-use pattern_query::read_pattern_query;
 use std::test::Fail;
 
 #[test]
@@ -56,16 +55,54 @@ fn queries_of_one_pattern_are_answered(rt: HostRuntime) -> Result<(), Fail> {
 }
 
 #[test]
-fn a_query_of_one_pattern_names_each_variable_once(rt: HostRuntime) -> Result<(), Fail> {
+fn shown_variables_and_literals_are_answered(rt: HostRuntime) -> Result<(), Fail> {
     let alloc = rt.alloc();
-    for (text, count) in [
-        ("SELECT * { ?s <u:p> ?o }", Some(2)),
-        ("SELECT * { ?s <u:p> ?s }", Some(1)),
-        ("SELECT ?s { ?s <u:p> ?o }", None),
-    ] {
-        let read = read_pattern_query(alloc, text.as_bytes())?;
-        let names = read.map(|query| query.names.len());
-        assert_eq!(rt; names, count, "{text}");
+    let ab = "<u:a> <u:p> <u:b> .\n";
+    let cases = [
+        // Shown variables stand once each, in the order of their first places; one that no pattern has is unbound.
+        (ab, "SELECT ?s { ?s <u:p> ?o }", "?s\n<u:a>\n"),
+        (
+            ab,
+            "SELECT ?o ?s ?o { ?s <u:p> ?o }",
+            "?o\t?s\n<u:b>\t<u:a>\n",
+        ),
+        (ab, "SELECT ?x ?s { ?s <u:p> ?o }", "?x\t?s\n\t<u:a>\n"),
+        // Rows that show the same terms stay apart.
+        (
+            "<u:a> <u:p> <u:b> .\n<u:a> <u:p> <u:c> .\n",
+            "SELECT ?s { ?s <u:p> ?o }",
+            "?s\n<u:a>\n<u:a>\n",
+        ),
+        // A group in a group is the group, and nothing is dropped.
+        (
+            ab,
+            "prefix p: <u:> select $s where { { ?s p:p p:b . } } offset 00",
+            "?s\n<u:a>\n",
+        ),
+        // Literals are constants; as a subject one matches nothing.
+        (
+            "<u:a> <u:p> \"x\"@EN .\n<u:b> <u:p> \"x\" .\n",
+            "SELECT ?s { ?s <u:p> 'x'@en }",
+            "?s\n<u:a>\n",
+        ),
+        (ab, "SELECT * { \"x\" <u:p> ?o }", "?o\n"),
+        (
+            "<u:a> <u:n> \"1\"^^<http://www.w3.org/2001/XMLSchema#integer> .\n<u:b> <u:n> \"01\"^^<http://www.w3.org/2001/XMLSchema#integer> .\n",
+            "SELECT ?s { ?s <u:n> 01 }",
+            "?s\n<u:b>\n",
+        ),
+        (
+            "<u:a> <http://www.w3.org/1999/02/22-rdf-syntax-ns#type> <u:b> .\n",
+            "SELECT ?s { ?s a <u:b> }",
+            "?s\n<u:a>\n",
+        ),
+    ];
+    for (data, query, want) in cases {
+        let mut shelf = shelf(alloc, data, query)?;
+        let ran = run_on(alloc, &mut shelf, &["query", "d", "q"], 1000, 1000)?;
+        assert_eq!(rt; ran.code, 0, "{query}");
+        assert_eq!(rt; ran.out.bytes(), want.as_bytes(), "{query}");
+        assert_eq!(rt; ran.err.bytes().len(), 0, "{query}");
     }
     Ok(())
 }

@@ -8,18 +8,31 @@ const QUERY: &str = "SELECT * WHERE { ?s <u:p> ?o }";
 #[test]
 fn failed_reads_name_their_file(rt: HostRuntime) -> Result<(), Fail> {
     let alloc = rt.alloc();
-    let cases = [
-        (1, "d", "db2rdf: cannot read d\n"),
-        (2, "d", "db2rdf: cannot read q\n"),
-        (0, "x", "db2rdf: cannot read x\n"),
+    let cases: [(&[&str], u64, &str); 8] = [
+        (&["query", "d", "q"], 1, "db2rdf: cannot read d\n"),
+        (&["query", "d", "q"], 2, "db2rdf: cannot read q\n"),
+        (&["query", "x", "q"], 0, "db2rdf: cannot read x\n"),
+        (&["query", "d", "x"], 0, "db2rdf: cannot read x\n"),
+        (
+            &["query", "--colouring", "x", "d", "q"],
+            0,
+            "db2rdf: cannot read x\n",
+        ),
+        (
+            &["stats", "--layout", "hash", "d"],
+            1,
+            "db2rdf: cannot read d\n",
+        ),
+        (&["exec", "d"], 1, "db2rdf: cannot read d\n"),
+        (&["exec", "x"], 0, "db2rdf: cannot read x\n"),
     ];
-    for (read, data_name, line) in cases {
+    for (words, read, line) in cases {
         let mut shelf = shelf(alloc, DATA, QUERY)?;
         shelf.fail_at(read)?;
-        let ran = run_on(alloc, &mut shelf, &["query", data_name, "q"], 1000, 1000)?;
-        assert_eq!(rt; ran.code, 6, "{line}");
-        assert_eq!(rt; ran.out.bytes().len(), 0, "{line}");
-        assert_eq!(rt; ran.err.bytes(), line.as_bytes(), "{line}");
+        let ran = run_on(alloc, &mut shelf, words, 1000, 1000)?;
+        assert_eq!(rt; ran.code, 6, "{words:?} {read}");
+        assert_eq!(rt; ran.out.bytes().len(), 0, "{words:?} {read}");
+        assert_eq!(rt; ran.err.bytes(), line.as_bytes(), "{words:?} {read}");
     }
     Ok(())
 }
@@ -27,7 +40,7 @@ fn failed_reads_name_their_file(rt: HostRuntime) -> Result<(), Fail> {
 #[test]
 fn a_full_output_keeps_a_front(rt: HostRuntime) -> Result<(), Fail> {
     let alloc = rt.alloc();
-    for (room, code) in [(0, 7), (5, 7), (17, 7), (18, 0)] {
+    for (room, code) in [(0, 7), (5, 7), (6, 7), (17, 7), (18, 0)] {
         let mut shelf = shelf(alloc, DATA, QUERY)?;
         let ran = run_on(alloc, &mut shelf, &["query", "d", "q"], room, 1000)?;
         assert_eq!(rt; ran.code, code, "room {room}");
@@ -46,7 +59,7 @@ fn refusals_name_their_cause(rt: HostRuntime) -> Result<(), Fail> {
     let cases = [
         (
             DATA,
-            "SELECT ?s { ?s <u:p> ?o }",
+            "SELECT DISTINCT ?s { ?s <u:p> ?o }",
             20,
             "db2rdf: not built yet\n",
         ),
@@ -63,6 +76,13 @@ fn refusals_name_their_cause(rt: HostRuntime) -> Result<(), Fail> {
             "db2rdf: bad data at line 1\n",
         ),
         ("\r\n\rx\n", QUERY, 3, "db2rdf: bad data at line 2\n"),
+        // A line without its dot.
+        (
+            "<u:a> <u:p> <u:b>\n",
+            QUERY,
+            3,
+            "db2rdf: bad data at line 1\n",
+        ),
     ];
     for (data, query, code, line) in cases {
         let mut shelf = shelf(alloc, data, query)?;
@@ -112,7 +132,7 @@ fn line_of(code: u8) -> &'static str {
 #[test]
 fn words_are_judged_before_files(rt: HostRuntime) -> Result<(), Fail> {
     let alloc = rt.alloc();
-    let cases: [(&[&str], u8); 16] = [
+    let cases: [(&[&str], u8); 15] = [
         (&[], 2),
         (&["query"], 2),
         (&["query", "d", "--q"], 2),
@@ -142,7 +162,6 @@ fn words_are_judged_before_files(rt: HostRuntime) -> Result<(), Fail> {
             ],
             0,
         ),
-        (&["query", "--colouring", "c", "d", "q"], 20),
         (&["drill", "100000", "4294967295"], 20),
         (&["show", "--reverse", "1", "x", "y"], 20),
     ];
@@ -158,9 +177,14 @@ fn words_are_judged_before_files(rt: HostRuntime) -> Result<(), Fail> {
 #[test]
 fn a_failed_put_on_the_error_output_changes_nothing(rt: HostRuntime) -> Result<(), Fail> {
     let alloc = rt.alloc();
-    let mut shelf = shelf(alloc, DATA, "SELECT")?;
-    let ran = run_on(alloc, &mut shelf, &["query", "d", "q"], 1000, 0)?;
-    assert_eq!(rt; ran.code, 20);
-    assert_eq!(rt; ran.out.bytes().len(), 0);
+    let minus = "SELECT * { ?s <u:p> ?o MINUS { ?s <u:q> ?o } }";
+    for (query, read, code) in [(minus, 0, 4), (QUERY, 1, 6)] {
+        let mut shelf = shelf(alloc, DATA, query)?;
+        shelf.fail_at(read)?;
+        let ran = run_on(alloc, &mut shelf, &["query", "d", "q"], 1000, 0)?;
+        assert_eq!(rt; ran.code, code, "{query}");
+        assert_eq!(rt; ran.out.bytes().len(), 0, "{query}");
+        assert_eq!(rt; ran.err.bytes().len(), 0, "{query}");
+    }
     Ok(())
 }

@@ -3,10 +3,10 @@ use Rattle.std.proofs.Common.{◌≡◌, ℕ, ◌<◌, List, [], ◌∷◌, ◌+
 use Rattle.std.specs.Prelude.{Option, Some, None, Result, Ok, Err, IfOk, IfErr, IfSome, IsOkAnd, MatchResult}
 use Rattle.store_io.specs.Causes.{Rose}
 use Rattle.run_meaning.specs.declared.status.Status.{Status}
-use Rattle.run_meaning.specs.declared.status.Status.TheVariants.{Done, Usage, BadData, Limit, ReadFault, WriteFault, BadTables, BadSql, NotYet, NoMemory}
+use Rattle.run_meaning.specs.declared.status.Status.TheVariants.{Done, Usage, BadData, BadQuery, Limit, ReadFault, WriteFault, BadTables, BadSql, BadColouring, NotYet, NoMemory}
 use Rattle.run_meaning.specs.declared.command.Command.{Command}
 use Rattle.outcome_meaning.specs.Outcome.{Contents, Texts, NamedFile, Work, files_of, Asks}
-use Rattle.outcome_meaning.specs.FittingText.{Fits, FitsFront, fitting_text}
+use Rattle.outcome_meaning.specs.FittingText.{FitsText, Fits, FitsFront}
 use Rattle.outcome_meaning.specs.Causes.{Faults, Tells, WhereTold, AsksFor, IsReached, NoReadFailed, Says, Completes}
 use Rattle.outcome_laws.specs.OneOutcome.{AskOnce}
 use Rattle.db2rdf_top.specs.Stops.{FitsAsked, Refuses, Puts, NamesSomething}
@@ -21,26 +21,28 @@ asks_map : (P Q : Work → Type 0) → ((work : Work) → P work → Q work) →
 asks_map P Q f (Err status) contents h = h
 asks_map P Q f (Ok command) contents h = λ texts t. let x = h texts t in (x.0, x.1, ok_map P Q f x.0 x.2)
 
-fits : (text : List ℕ) (old new : Option (List ℕ)) → IfSome old (λ bytes. new ≡ Some (bytes ++ text)) → (work : Work) → text ≡ fitting_text work → Fits work old new
+fits : (text : List ℕ) (old new : Option (List ℕ)) → IfSome old (λ bytes. new ≡ Some (bytes ++ text)) → (work : Work) → FitsText work text → Fits work old new
 fits text None new h work is = tt
-fits text (Some bytes) new h work is = rw is at h
+fits text (Some bytes) new h work is = (text, is, h)
 
-fits_front : (text : List ℕ) (old new : Option (List ℕ)) → IfSome old (λ bytes. (count : ℕ) × (new ≡ Some (bytes ++ take count text))) → (work : Work) → text ≡ fitting_text work → FitsFront work old new
+fits_front : (text : List ℕ) (old new : Option (List ℕ)) → IfSome old (λ bytes. (count : ℕ) × (new ≡ Some (bytes ++ take count text))) → (work : Work) → FitsText work text → FitsFront work old new
 fits_front text None new h work is = tt
-fits_front text (Some bytes) new h work is = rw is at h
+fits_front text (Some bytes) new h work is = (text, is, h)
 
 -- the text was put, or a front of it
 pub text_says : (status : Status) (text : List ℕ) (asked : Result Command Status) (contents : Contents) (faults : Faults) (old new : Option (List ℕ))
     → FitsAsked text asked contents → Puts status text old new faults.out_before faults.out_after → Says status asked contents faults old new
 text_says Done text asked contents faults old new f p =
-    asks_map (λ work. text ≡ fitting_text work) (λ work. Fits work old new) (fits text old new p) asked contents f.told
+    asks_map (λ work. FitsText work text) (λ work. Fits work old new) (fits text old new p) asked contents f.told
 text_says WriteFault text asked contents faults old new f p =
-    (asks_map (λ work. text ≡ fitting_text work) (λ work. FitsFront work old new) (fits_front text old new p.0) asked contents f.told, p.1)
+    (asks_map (λ work. FitsText work text) (λ work. FitsFront work old new) (fits_front text old new p.0) asked contents f.told, p.1)
 text_says Usage text asked contents faults old new f p = absurd p
 text_says (BadData line) text asked contents faults old new f p = absurd p
+text_says (BadQuery why) text asked contents faults old new f p = absurd p
 text_says (Limit which) text asked contents faults old new f p = absurd p
 text_says (BadTables line) text asked contents faults old new f p = absurd p
 text_says (BadSql why) text asked contents faults old new f p = absurd p
+text_says (BadColouring line) text asked contents faults old new f p = absurd p
 text_says (ReadFault name) text asked contents faults old new f p = absurd p
 text_says NotYet text asked contents faults old new f p = absurd p
 text_says NoMemory text asked contents faults old new f p = absurd p
@@ -51,9 +53,11 @@ pub refusal_says : (status : Status) (asked : Result Command Status) (contents :
 refusal_says NoMemory asked contents faults old new r e = e
 refusal_says Usage asked contents faults old new r e = (r, e)
 refusal_says (BadData line) asked contents faults old new r e = (r, e)
+refusal_says (BadQuery why) asked contents faults old new r e = (r, e)
 refusal_says (Limit which) asked contents faults old new r e = (r, e)
 refusal_says (BadTables line) asked contents faults old new r e = (r, e)
 refusal_says (BadSql why) asked contents faults old new r e = (r, e)
+refusal_says (BadColouring line) asked contents faults old new r e = (r, e)
 refusal_says (ReadFault name) asked contents faults old new r e = (r, e)
 refusal_says NotYet asked contents faults old new r e = (r, e)
 refusal_says Done asked contents faults old new r e = absurd r
@@ -65,9 +69,11 @@ pub ends : (status result : Status) (asked : Result Command Status) (contents : 
 ends status result asked contents faults old new s (inl e) = rw e s
 ends (ReadFault name) result asked contents faults old new s (inr e) = rw e.1 s.1
 ends (BadData line) result asked contents faults old new s (inr e) = rw e.1 s.1
+ends (BadQuery why) result asked contents faults old new s (inr e) = rw e.1 s.1
 ends (Limit which) result asked contents faults old new s (inr e) = rw e.1 s.1
 ends (BadTables line) result asked contents faults old new s (inr e) = rw e.1 s.1
 ends (BadSql why) result asked contents faults old new s (inr e) = rw e.1 s.1
+ends (BadColouring line) result asked contents faults old new s (inr e) = rw e.1 s.1
 ends Done result asked contents faults old new s (inr e) = absurd e.0
 ends Usage result asked contents faults old new s (inr e) = absurd e.0
 ends WriteFault result asked contents faults old new s (inr e) = absurd e.0
@@ -141,10 +147,14 @@ completes (ReadFault name) (Ok command) contents faults old new once s = λ none
 completes NotYet (Err owed) contents faults old new once s = inl (sym s.0)
 completes NotYet (Ok command) contents faults old new once s = refused NotYet command contents faults once s.0
 completes (BadData line) (Err owed) contents faults old new once s = inl (sym s.0)
+completes (BadQuery why) (Err owed) contents faults old new once s = inl (sym s.0)
 completes (BadData line) (Ok command) contents faults old new once s = refused (BadData line) command contents faults once s.0
+completes (BadQuery why) (Ok command) contents faults old new once s = refused (BadQuery why) command contents faults once s.0
 completes (Limit which) (Err owed) contents faults old new once s = inl (sym s.0)
 completes (Limit which) (Ok command) contents faults old new once s = refused (Limit which) command contents faults once s.0
 completes (BadTables line) (Err owed) contents faults old new once s = inl (sym s.0)
 completes (BadTables line) (Ok command) contents faults old new once s = refused (BadTables line) command contents faults once s.0
 completes (BadSql why) (Err owed) contents faults old new once s = inl (sym s.0)
+completes (BadColouring line) (Err owed) contents faults old new once s = inl (sym s.0)
 completes (BadSql why) (Ok command) contents faults old new once s = refused (BadSql why) command contents faults once s.0
+completes (BadColouring line) (Ok command) contents faults old new once s = refused (BadColouring line) command contents faults once s.0

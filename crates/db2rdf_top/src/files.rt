@@ -1,20 +1,22 @@
 //! Reading the named files, and judging what they hold.
 
-ghost use Rattle.std.specs.Prelude.{◌≡◌, ◌≤◌, ◌<◌, IfOk, IfErr, IfSome, List, ℕ, Ok, Err, length};
+ghost use Rattle.std.specs.Prelude.{◌≡◌, ◌≤◌, ◌<◌, IfOk, IfErr, OnOk, IfSome, List, ℕ, Ok, Err, length, map};
 ghost use Rattle.store_io.specs.Reading.{CountsFaults};
-ghost use Rattle.outcome_meaning.specs.Outcome.{judged_data, judged_query};
+ghost use Rattle.colouring_meaning.specs.ColourLines.{AreFit};
+ghost use Rattle.colouring_lines.specs.Colours.{colour_of};
+ghost use Rattle.outcome_meaning.specs.Outcome.{judged_colouring, judged_data};
 ghost use Rattle.outcome_meaning.specs.Refusal.{RefusedAs};
-ghost use Rattle.db2rdf_top.specs.Stops.{Stops};
+ghost use Rattle.db2rdf_top.specs.Stops.{GivesColours, HasColours, ColouringStops, Stops};
 
+use colouring_lines::{ColourLine, read_colouring};
 use line_meaning::Change;
 use nt_lines::{LineRefusal, read_changes};
-use pattern_query::{PatternQuery, read_pattern_query};
 use rdf_terms::text_of;
-use run_meaning::{Status, Which};
+use run_meaning::{Layout, Options, Status, Which};
 use std::alloc::Global;
 use store_io::{Shelf, ShelfError, Taken};
 
-/// The most bytes of a data file, or of one of tables and SQL.
+/// The most bytes of a colouring file, of a data file, or of one of tables and SQL.
 const MOST_FILE: usize = 67_108_864;
 
 /// The most bytes of a query file.
@@ -44,10 +46,94 @@ fn read_file<F: Shelf>(
     }
 }
 
+// The colours of a text that is not too long, for sides with these counts of columns.
+fn judge_colours(
+    alloc: Global,
+    text: &[u8],
+    direct: u32,
+    reverse: u32,
+) -> Result<Vec<ColourLine>, Status>
+    requires { length text.now ≤ 67108864 }
+    ensures ok { IfOk result (λ lines. judged_colouring direct reverse text.now ≡ Ok (map colour_of lines.items)) }
+    ensures fit { IfOk result (λ lines. AreFit direct reverse (map colour_of lines.items)) }
+    ensures err { IfErr result (λ status. RefusedAs status (λ s. judged_colouring direct reverse text.now ≡ Err s)) }
+{
+    match read_colouring(alloc, text, direct, reverse) {
+        Ok(lines) => Ok(lines),
+        Err(LineRefusal::NoMemory) => Err(Status::NoMemory),
+        Err(LineRefusal::Bad { line }) => Err(Status::BadColouring { line }),
+        Err(LineRefusal::TooLong { .. }) => Err(Status::Limit { which: Which::Line }),
+    }
+}
+
+// The colours of a colouring file.
+fn read_colouring_file<F: Shelf>(
+    alloc: Global,
+    shelf: &mut F,
+    name: &str,
+    direct: u32,
+    reverse: u32,
+) -> Result<Vec<ColourLine>, Status>
+    ensures ok { IfOk result (λ lines. IfSome (F.content shelf.old name.now) (λ d. judged_colouring direct reverse d ≡ Ok (map colour_of lines.items))) }
+    ensures fit { IfOk result (λ lines. AreFit direct reverse (map colour_of lines.items)) }
+    ensures err { IfErr result (λ status. Stops status name.now (λ s. IfSome (F.content shelf.old name.now) (λ d. judged_colouring direct reverse d ≡ Err s)) (F.faults shelf.old name.now) (F.faults shelf.new name.now)) }
+    ensures content { (other : List ℕ) → F.content shelf.new other ≡ F.content shelf.old other }
+    ensures counts { CountsFaults (F.faults shelf.old) (F.faults shelf.new) name.now }
+{
+    match read_file(alloc, shelf, name, MOST_FILE, Which::File) {
+        Ok(text) => judge_colours(alloc, &text, direct, reverse),
+        Err(status) => Err(status),
+    }
+}
+
+/// The colours of the colouring file that options name, or none where they name none.
+pub(crate) fn read_colours<F: Shelf>(
+    alloc: Global,
+    options: &Options,
+    shelf: &mut F,
+) -> Result<Vec<ColourLine>, Status>
+    ensures ok { IfOk result (λ lines. GivesColours options.now (F.content shelf.old) (map colour_of lines.items)) }
+    ensures fit { IfOk result (λ lines. AreFit options.now.columns options.now.reverse (map colour_of lines.items)) }
+    ensures err { IfErr result (λ status. ColouringStops status options.now (F.content shelf.old) (F.faults shelf.old) (F.faults shelf.new)) }
+    ensures content { (other : List ℕ) → F.content shelf.new other ≡ F.content shelf.old other }
+    ensures counts { (other : List ℕ) → F.faults shelf.old other ≤ F.faults shelf.new other }
+{
+    match &options.layout {
+        Layout::File(name) => {
+            read_colouring_file(
+                alloc,
+                shelf,
+                name.as_str(),
+                options.columns,
+                options.reverse,
+            )
+        }
+        Layout::Colour | Layout::Hash => Ok(Vec::new(alloc)),
+    }
+}
+
+/// Judges the colouring file that options name, where they name one.
+pub(crate) fn accept_colours<F: Shelf>(
+    alloc: Global,
+    options: &Options,
+    shelf: &mut F,
+) -> Result<(), Status>
+    ensures ok { OnOk result (HasColours options.now (F.content shelf.old)) }
+    ensures err { IfErr result (λ status. ColouringStops status options.now (F.content shelf.old) (F.faults shelf.old) (F.faults shelf.new)) }
+    ensures content { (other : List ℕ) → F.content shelf.new other ≡ F.content shelf.old other }
+    ensures counts { (other : List ℕ) → F.faults shelf.old other ≤ F.faults shelf.new other }
+{
+    match read_colours(alloc, options, shelf) {
+        Ok(_lines) => Ok(()),
+        Err(status) => Err(status),
+    }
+}
+
 // The changes of a text that is not too long.
 fn judge_data(alloc: Global, text: &[u8]) -> Result<Vec<Change>, Status>
     requires { length text.now ≤ 67108864 }
     ensures ok { IfOk result (λ changes. judged_data text.now ≡ Ok changes.items) }
+    ensures few { IfOk result (λ changes. length changes.items ≤ 67108865) }
     ensures err { IfErr result (λ status. RefusedAs status (λ s. judged_data text.now ≡ Err s)) }
 {
     match read_changes(alloc, text) {
@@ -58,18 +144,6 @@ fn judge_data(alloc: Global, text: &[u8]) -> Result<Vec<Change>, Status>
     }
 }
 
-// The query of a text that is not too long.
-fn judge_query(alloc: Global, text: &[u8]) -> Result<PatternQuery, Status>
-    requires { length text.now ≤ 65536 }
-    ensures ok { IfOk result (λ query. judged_query text.now ≡ Ok query) }
-    ensures err { IfErr result (λ status. RefusedAs status (λ s. judged_query text.now ≡ Err s)) }
-{
-    match read_pattern_query(alloc, text)? {
-        Some(query) => Ok(query),
-        None => Err(Status::NotYet),
-    }
-}
-
 /// The changes of a data file.
 pub(crate) fn read_data<F: Shelf>(
     alloc: Global,
@@ -77,6 +151,7 @@ pub(crate) fn read_data<F: Shelf>(
     name: &str,
 ) -> Result<Vec<Change>, Status>
     ensures ok { IfOk result (λ changes. IfSome (F.content shelf.old name.now) (λ d. judged_data d ≡ Ok changes.items)) }
+    ensures few { IfOk result (λ changes. length changes.items ≤ 67108865) }
     ensures err { IfErr result (λ status. Stops status name.now (λ s. IfSome (F.content shelf.old name.now) (λ d. judged_data d ≡ Err s)) (F.faults shelf.old name.now) (F.faults shelf.new name.now)) }
     ensures content { (other : List ℕ) → F.content shelf.new other ≡ F.content shelf.old other }
     ensures counts { CountsFaults (F.faults shelf.old) (F.faults shelf.new) name.now }
@@ -87,21 +162,18 @@ pub(crate) fn read_data<F: Shelf>(
     }
 }
 
-/// The query of a query file.
+/// The text of a query file.
 pub(crate) fn read_query<F: Shelf>(
     alloc: Global,
     shelf: &mut F,
     name: &str,
-) -> Result<PatternQuery, Status>
-    ensures ok { IfOk result (λ query. IfSome (F.content shelf.old name.now) (λ q. judged_query q ≡ Ok query)) }
-    ensures err { IfErr result (λ status. Stops status name.now (λ s. IfSome (F.content shelf.old name.now) (λ q. judged_query q ≡ Err s)) (F.faults shelf.old name.now) (F.faults shelf.new name.now)) }
+) -> Result<Vec<u8>, Status>
+    ensures ok { IfOk result (λ text. (length text.items ≤ 65536) × IfSome (F.content shelf.old name.now) (λ d. text.items ≡ d)) }
+    ensures err { IfErr result (λ status. Stops status name.now (λ s. (s ≡ Status.Limit Which.Query) × IfSome (F.content shelf.old name.now) (λ d. 65536 < length d)) (F.faults shelf.old name.now) (F.faults shelf.new name.now)) }
     ensures content { (other : List ℕ) → F.content shelf.new other ≡ F.content shelf.old other }
     ensures counts { CountsFaults (F.faults shelf.old) (F.faults shelf.new) name.now }
 {
-    match read_file(alloc, shelf, name, MOST_QUERY, Which::Query) {
-        Ok(text) => judge_query(alloc, &text),
-        Err(status) => Err(status),
-    }
+    read_file(alloc, shelf, name, MOST_QUERY, Which::Query)
 }
 
 /// The text of a file of tables and SQL.

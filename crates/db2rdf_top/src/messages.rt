@@ -1,13 +1,14 @@
 //! The lines on the error output.
 
 ghost use Rattle.std.specs.Prelude.{◌≡◌, ◌++◌, ◌∷◌, [], IfOk, OnOk, ◌⊎◌, codes, decimal};
-ghost use Rattle.run_meaning.specs.Codes.{line_of, name_of, text_of_fault, in_select};
+ghost use Rattle.run_meaning.specs.Codes.{line_of, name_of, name_of_feature, text_of_query_fault, text_of_fault, in_select};
 ghost use Rattle.outcome_meaning.specs.Causes.{Told};
 ghost use Rattle.db2rdf_top.specs.Stops.{NamesSomething};
 
+use fragment_meaning::Feature;
 use itoa::Buffer;
 use rdf_terms::Text;
-use run_meaning::{SqlFault, Status, Which};
+use run_meaning::{QueryFault, SqlFault, Status, Which};
 use std::alloc::{AllocError, Global};
 use store_io::Sink;
 
@@ -56,6 +57,94 @@ fn bad_tables_line(alloc: Global, line: u64) -> Result<Vec<u8>, AllocError>
     ensures { IfOk result (λ text. text.items ≡ line_of (Status.BadTables line)) }
 {
     numbered_line(alloc, b"db2rdf: bad tables at line ", line)
+}
+
+// The line of a bad line of a colouring file.
+fn bad_colouring_line(alloc: Global, line: u64) -> Result<Vec<u8>, AllocError>
+    ensures { IfOk result (λ text. text.items ≡ line_of (Status.BadColouring line)) }
+{
+    numbered_line(alloc, b"db2rdf: bad colouring at line ", line)
+}
+
+// The name of what is left out of the fragment.
+fn name_of_feature(feature: Feature) -> &'static str
+    ensures { result.now ≡ name_of_feature feature }
+{
+    match feature {
+        Feature::Graph => "Graph",
+        Feature::Dataset => "Dataset",
+        Feature::Service => "Service",
+        Feature::Describe => "Describe",
+        Feature::SubSelect => "SubSelect",
+        Feature::Exists => "Exists",
+        Feature::Bind => "Bind",
+        Feature::Values => "Values",
+        Feature::Minus => "Minus",
+        Feature::Reduced => "Reduced",
+        Feature::Having => "Having",
+        Feature::GroupBy => "GroupBy",
+        Feature::SelectExpression => "SelectExpression",
+        Feature::Base => "Base",
+        Feature::Ask => "Ask",
+        Feature::Construct => "Construct",
+        Feature::Update => "Update",
+        Feature::Aggregate => "Aggregate",
+        Feature::Function => "Function",
+        Feature::Brackets => "Brackets",
+        Feature::BlankNode => "BlankNode",
+        Feature::Double => "Double",
+        Feature::LongText => "LongText",
+        Feature::Operator => "Operator",
+        Feature::Path => "Path",
+        Feature::Not => "Not",
+        Feature::TruthOperand => "TruthOperand",
+    }
+}
+
+// Words and a place.
+fn write_at(words: &[u8], at: usize, text: &mut Vec<u8>) -> Result<(), AllocError>
+    ensures { OnOk result (text.new.items ≡ text.old.items ++ (words.now ++ decimal at)) }
+{
+    text.extend_from_slice(words)?;
+    write_number(at as u64, text)
+}
+
+// Words, a name, and words with a place.
+fn write_named_at(
+    words: &[u8],
+    name: &str,
+    before: &[u8],
+    at: usize,
+    text: &mut Vec<u8>,
+) -> Result<(), AllocError>
+    ensures { OnOk result (text.new.items ≡ text.old.items ++ (words.now ++ (name.now ++ (before.now ++ decimal at)))) }
+{
+    text.extend_from_slice(words)?;
+    text.extend_from_slice(name.as_bytes())?;
+    write_at(before, at, text)
+}
+
+fn write_query_fault(why: QueryFault, text: &mut Vec<u8>) -> Result<(), AllocError>
+    ensures { OnOk result (text.new.items ≡ text.old.items ++ text_of_query_fault why) }
+{
+    match why {
+        QueryFault::NotInFragment { feature, at } => {
+            let name = name_of_feature(feature);
+            write_named_at(b"not in fragment: ", name, b" at ", at, text)
+        }
+        QueryFault::Syntax { at } => write_at(b"syntax at ", at, text),
+        QueryFault::UnknownPrefix { at } => write_at(b"unknown prefix at ", at, text),
+    }
+}
+
+// The line of a query that is refused.
+fn bad_query_line(alloc: Global, why: QueryFault) -> Result<Vec<u8>, AllocError>
+    ensures { IfOk result (λ text. text.items ≡ line_of (Status.BadQuery why)) }
+{
+    let mut text = Vec::from_slice(alloc, b"db2rdf: bad query: ")?;
+    write_query_fault(why, &mut text)?;
+    text.push(b'\n')?;
+    Ok(text)
 }
 
 fn write_select(select: u64, text: &mut Vec<u8>) -> Result<(), AllocError>
@@ -164,6 +253,9 @@ pub fn tell<E: Sink>(alloc: Global, status: Status, err: &mut E) -> Status
         Status::BadData { line } => {
             put_line(bad_data_line(alloc, line), Status::BadData { line }, err)
         }
+        Status::BadQuery { why } => {
+            put_line(bad_query_line(alloc, why), Status::BadQuery { why }, err)
+        }
         Status::Limit { which } => {
             put_line(limit_line(alloc, which), Status::Limit { which }, err)
         }
@@ -183,6 +275,13 @@ pub fn tell<E: Sink>(alloc: Global, status: Status, err: &mut E) -> Status
         }
         Status::BadSql { why } => {
             put_line(bad_sql_line(alloc, why), Status::BadSql { why }, err)
+        }
+        Status::BadColouring { line } => {
+            put_line(
+                bad_colouring_line(alloc, line),
+                Status::BadColouring { line },
+                err,
+            )
         }
         Status::WriteFault => {
             let _ = err.put(b"db2rdf: cannot write\n");

@@ -1,41 +1,32 @@
 //! One run of the program.
 
-ghost use Rattle.std.specs.Prelude.{◌≡◌, Ok, Err, IfOk, IfErr, OnOk, map, string_bytes};
+ghost use Rattle.std.specs.Prelude.{◌≡◌, ◌<◌, ◌^◌, Ok, Err, IfOk, IfErr, OnOk, length, map, string_bytes};
 ghost use Rattle.run_meaning.specs.declared.command.Command.TheVariants as command;
 ghost use Rattle.run_meaning.specs.Words.{command_of};
-ghost use Rattle.outcome_meaning.specs.Outcome.{answering, asked, built, judged_work};
-ghost use Rattle.outcome_meaning.specs.FittingText.{fitting_text};
+ghost use Rattle.colouring_meaning.specs.ColourLines.{AreFit};
+ghost use Rattle.colouring_lines.specs.Colours.{colour_of};
+ghost use Rattle.command_laws.specs.Ranges.{AreInRange, IsInRange, IsWithin};
+ghost use Rattle.outcome_meaning.specs.Outcome.{counting, asked, built, judged_work};
+ghost use Rattle.outcome_meaning.specs.FittingText.{FitsText};
 ghost use Rattle.outcome_meaning.specs.Refusal.{RefusedAs};
 ghost use Rattle.outcome_meaning.specs.Causes.{Says, Completes, Told};
 ghost use Rattle.db2rdf_top.specs.Stops.{FitsAsked, Refuses, Puts};
 
-use crate::files::{read_data, read_query, read_tables_and_sql};
+use crate::files::{accept_colours, read_colours, read_data, read_query, read_tables_and_sql};
 use crate::messages::tell;
+use colouring_lines::ColourLine;
 use command_words::command_of;
 use exec_work::script_text;
 use line_meaning::Change;
 use outcome_laws::commands_ask_once;
-use pattern_answer::answer;
-use pattern_query::PatternQuery;
-use plain_triples::{LoadRefusal, load};
-use run_meaning::{Command, Layout, Options, Status};
+use plain_triples::LoadRefusal;
+use query_work::query_text;
+use run_meaning::{Command, Options, Status};
+use stats_work::stats_text;
 use std::alloc::Global;
 use store_io::{Shelf, Sink};
 
-// The text of the answer, or the limit that the changes pass.
-fn answer_text(alloc: Global, changes: Vec<Change>, query: &PatternQuery) -> Result<Vec<u8>, Status>
-    ensures ok { IfOk result (λ text. text.items ≡ fitting_text (answering changes.items query.now)) }
-    ensures judged { OnOk result (judged_work (answering changes.items query.now) ≡ Ok (answering changes.items query.now)) }
-    ensures refused { IfErr result (λ status. RefusedAs status (λ s. judged_work (answering changes.items query.now) ≡ Err s)) }
-{
-    match load(alloc, changes) {
-        Ok(triples) => Ok(answer(alloc, &triples, query)?),
-        Err(LoadRefusal::NoMemory) => Err(Status::NoMemory),
-        Err(LoadRefusal::Limit(which)) => Err(Status::Limit { which }),
-    }
-}
-
-// Reads both files of a query, and answers. The options change no answer.
+// Reads the files of a query, and answers. The options change no answer, but a colouring file is judged.
 fn answer_files<F: Shelf>(
     alloc: Global,
     options: &Options,
@@ -46,37 +37,83 @@ fn answer_files<F: Shelf>(
     ensures fits { IfOk result (λ text. FitsAsked text.items (Ok (command.Query options.now data_name.now query_name.now)) (F.content shelf.old)) }
     ensures refused { IfErr result (λ status. Refuses status (Ok (command.Query options.now data_name.now query_name.now)) (F.content shelf.old) (F.faults shelf.old) (F.faults shelf.new)) }
 {
-    let _ = options;
+    match accept_colours(alloc, options, shelf) {
+        Ok(()) => {}
+        Err(status) => return Err(status),
+    }
     let changes = match read_data(alloc, shelf, data_name) {
         Ok(changes) => changes,
         Err(status) => return Err(status),
     };
-    let query = match read_query(alloc, shelf, query_name) {
-        Ok(query) => query,
+    let text = match read_query(alloc, shelf, query_name) {
+        Ok(text) => text,
         Err(status) => return Err(status),
     };
-    answer_text(alloc, changes, &query)
+    query_text(alloc, changes, &text)
 }
 
-// Reads a file of tables and SQL, and runs its script. The number of pieces changes no answer.
+// Reads a file of tables and SQL, and runs its script.
 fn run_file<F: Shelf>(
     alloc: Global,
     pieces: u32,
     name: &str,
     shelf: &mut F,
 ) -> Result<Vec<u8>, Status>
+    requires { IsWithin 1 64 pieces }
     ensures fits { IfOk result (λ text. FitsAsked text.items (Ok (command.Exec pieces name.now)) (F.content shelf.old)) }
     ensures refused { IfErr result (λ status. Refuses status (Ok (command.Exec pieces name.now)) (F.content shelf.old) (F.faults shelf.old) (F.faults shelf.new)) }
 {
-    let _ = pieces;
     let text = match read_tables_and_sql(alloc, shelf, name) {
         Ok(text) => text,
         Err(status) => return Err(status),
     };
-    script_text(alloc, &text)
+    script_text(alloc, &text, pieces)
+}
+
+// The text of the statistics of changes, or the limit that they pass.
+fn counted_text(
+    alloc: Global,
+    options: &Options,
+    lines: Vec<ColourLine>,
+    changes: Vec<Change>,
+) -> Result<Vec<u8>, Status>
+    requires in_range { AreInRange options.now }
+    requires fit { AreFit options.now.columns options.now.reverse (map colour_of lines.items) }
+    requires few { length changes.items < 2 ^ 62 }
+    ensures fits { IfOk result (λ text. FitsText (counting options.now (map colour_of lines.items) changes.items) text.items) }
+    ensures judged { OnOk result (judged_work changes.items (counting options.now (map colour_of lines.items) changes.items) ≡ Ok (counting options.now (map colour_of lines.items) changes.items)) }
+    ensures refused { IfErr result (λ status. RefusedAs status (λ s. judged_work changes.items (counting options.now (map colour_of lines.items) changes.items) ≡ Err s)) }
+{
+    match stats_text(alloc, options, lines, changes) {
+        Ok(text) => Ok(text),
+        Err(LoadRefusal::NoMemory) => Err(Status::NoMemory),
+        Err(LoadRefusal::Limit(which)) => Err(Status::Limit { which }),
+    }
+}
+
+// Reads the colouring file, where the options name one, and the data file, and counts the tables of its changes.
+fn count_file<F: Shelf>(
+    alloc: Global,
+    options: &Options,
+    name: &str,
+    shelf: &mut F,
+) -> Result<Vec<u8>, Status>
+    requires { AreInRange options.now }
+    ensures fits { IfOk result (λ text. FitsAsked text.items (Ok (command.Stats options.now name.now)) (F.content shelf.old)) }
+    ensures refused { IfErr result (λ status. Refuses status (Ok (command.Stats options.now name.now)) (F.content shelf.old) (F.faults shelf.old) (F.faults shelf.new)) }
+{
+    let lines = match read_colours(alloc, options, shelf) {
+        Ok(lines) => lines,
+        Err(status) => return Err(status),
+    };
+    match read_data(alloc, shelf, name) {
+        Ok(changes) => counted_text(alloc, options, lines, changes),
+        Err(status) => Err(status),
+    }
 }
 
 fn perform<F: Shelf>(alloc: Global, command: &Command, shelf: &mut F) -> Result<Vec<u8>, Status>
+    requires { IsInRange command.now }
     ensures fits { IfOk result (λ text. FitsAsked text.items (built command.now) (F.content shelf.old)) }
     ensures refused { IfErr result (λ status. Refuses status (built command.now) (F.content shelf.old) (F.faults shelf.old) (F.faults shelf.new)) }
 {
@@ -85,13 +122,9 @@ fn perform<F: Shelf>(alloc: Global, command: &Command, shelf: &mut F) -> Result<
             options,
             data,
             query,
-        } => match options.layout {
-            Layout::File(_) => Err(Status::NotYet),
-            Layout::Colour | Layout::Hash => {
-                answer_files(alloc, options, data.as_str(), query.as_str(), shelf)
-            }
-        },
+        } => answer_files(alloc, options, data.as_str(), query.as_str(), shelf),
         Command::Exec { pieces, file } => run_file(alloc, *pieces, file.as_str(), shelf),
+        Command::Stats { options, data } => count_file(alloc, options, data.as_str(), shelf),
         _ => Err(Status::NotYet),
     }
 }

@@ -2,6 +2,8 @@
 #![tactic(auto)]
 
 mod parts;
+mod run;
+mod schemas;
 mod work;
 
 pub use work::script_text;

@@ -1,9 +1,10 @@
 //! Reading the tables and the script of a text.
 
-ghost use Rattle.std.specs.Prelude.{◌≡◌, ◌≤◌, IfOk, IfErr, Err, List, drop, length};
+ghost use Rattle.std.specs.Prelude.{◌≡◌, ◌≤◌, IfOk, IfErr, Err, List, drop, length, IsTrue};
 ghost use Rattle.table_meaning.specs.Tables.{NamedTable};
 ghost use Rattle.table_meaning.specs.TableText.{TablesRead};
 ghost use Rattle.sql_meaning.specs.Texts.{SpellsOnly};
+ghost use Rattle.sql_meaning.specs.Scripts.{script_form};
 ghost use Rattle.outcome_meaning.specs.Outcome.{SqlAsks, ScriptAsks, judged_script};
 ghost use Rattle.outcome_meaning.specs.Refusal.{RefusedAs};
 
@@ -35,9 +36,11 @@ fn front_tables(alloc: Global, text: &[u8]) -> Result<ReadTables, Status>
 }
 
 // The script behind the tables.
+#[tactic(auto, using(crate::proofs::Runs::writable_form))]
 fn script_behind(alloc: Global, text: &[u8], sql_at: usize) -> Result<Script, Status>
     requires { sql_at ≤ length text.now }
     ensures ok { IfOk result (λ script. SpellsOnly (drop sql_at text.now) script) }
+    ensures form { IfOk result (λ script. IsTrue (script_form script)) }
     ensures err { IfErr result (λ status. RefusedAs status (λ s. (tables : List NamedTable) → SqlAsks tables (drop sql_at text.now) (Err s))) }
 {
     match read_sql(alloc, &text[sql_at..]) {
@@ -56,6 +59,7 @@ fn script_behind(alloc: Global, text: &[u8], sql_at: usize) -> Result<Script, St
 #[tactic(auto, using(crate::specs::Places::sql_within))]
 pub(crate) fn read_parts(alloc: Global, text: &[u8]) -> Result<Parts, Status>
     ensures ok { IfOk result (λ parts. ScriptAsks text.now (judged_script parts.tables parts.script)) }
+    ensures form { IfOk result (λ parts. IsTrue (script_form parts.script)) }
     ensures err { IfErr result (λ status. RefusedAs status (λ s. ScriptAsks text.now (Err s))) }
 {
     let read = match front_tables(alloc, text) {

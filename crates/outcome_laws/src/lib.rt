@@ -3,6 +3,7 @@
 
 ghost use Rattle.outcome_laws.specs.OneOutcome.{AskOnce};
 
+use query_refusals::{queries_are_not_refused, refusals_are_unique};
 use table_text::texts_have_one_outcome;
 
 /// Each command over texts asks for one thing at most.
@@ -10,5 +11,7 @@ use table_text::texts_have_one_outcome;
 pub fn commands_ask_once()
     ensures { AskOnce }
 {
+    queries_are_not_refused();
+    refusals_are_unique();
     texts_have_one_outcome();
 }

@@ -3,7 +3,7 @@ use Rattle.std.specs.Prelude.{◌≡◌, ℕ, ◌<◌, List, [], ◌∷◌, ◌+
 use Rattle.std.specs.List.{AllByRecursion}
 use Rattle.store_io.specs.Causes.{Rose}
 use Rattle.run_meaning.specs.declared.status.Status.{Status}
-use Rattle.run_meaning.specs.declared.status.Status.TheVariants.{Done, Usage, BadData, Limit, ReadFault, WriteFault, BadTables, BadSql, NotYet, NoMemory}
+use Rattle.run_meaning.specs.declared.status.Status.TheVariants.{Done, Usage, BadData, BadQuery, Limit, ReadFault, WriteFault, BadTables, BadSql, BadColouring, NotYet, NoMemory}
 use Rattle.run_meaning.specs.Codes.{line_of}
 use Rattle.run_meaning.specs.declared.command.Command.{Command}
 use Rattle.outcome_meaning.specs.Outcome.{Contents, Texts, Work, NamedFile, files_of, Accepts, Asks}
@@ -53,9 +53,11 @@ Says (ReadFault name) asked contents faults old new = IsOkAnd asked (λ command.
 Says NoMemory asked contents faults old new = new ≡ old
 Says Usage asked contents faults old new = (asked ≡ Err Usage) × (new ≡ old)
 Says (BadData line) asked contents faults old new = IsAskedFor (BadData line) asked contents × (new ≡ old)
+Says (BadQuery why) asked contents faults old new = IsAskedFor (BadQuery why) asked contents × (new ≡ old)
 Says (Limit which) asked contents faults old new = IsAskedFor (Limit which) asked contents × (new ≡ old)
 Says (BadTables line) asked contents faults old new = IsAskedFor (BadTables line) asked contents × (new ≡ old)
 Says (BadSql why) asked contents faults old new = IsAskedFor (BadSql why) asked contents × (new ≡ old)
+Says (BadColouring line) asked contents faults old new = IsAskedFor (BadColouring line) asked contents × (new ≡ old)
 Says NotYet asked contents faults old new = IsAskedFor NotYet asked contents × (new ≡ old)
 
 -- no read of a file that the words name failed

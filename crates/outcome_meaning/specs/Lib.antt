@@ -1,3 +1,4 @@
+pub mod QueryFile
 pub mod Outcome
 pub mod FittingText
 pub mod Causes

@@ -1,3 +1,4 @@
 pub mod Tabs
 pub mod Rows
 pub mod Places
+pub mod Below

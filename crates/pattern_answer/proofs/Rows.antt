@@ -1,5 +1,5 @@
 -- The sorted matches of a pattern are the ordered answer.
-use Rattle.std.proofs.Common.{◌≡◌, ◌⊎◌, ℕ, Bool, true, false, cond, List, [], ◌∷◌, ◌++◌, map, filter, length, refl, sym, ap, ◌∙◌, inl, inr, ◌+◌, ◌-◌, ◌<◌, suc, arith, append_assoc}
+use Rattle.std.proofs.Common.{◌≡◌, ◌⊎◌, ℕ, Bool, true, false, cond, List, [], ◌∷◌, ◌++◌, map, filter, refl, sym, ap, ◌∙◌, inl, inr}
 use Rattle.std.specs.List.{flat_map}
 use Rattle.std.proofs.lemmas.Bool.{cases_Bool}
 use Rattle.std.specs.declared.cmp.Ordering.{Ordering}
@@ -19,7 +19,6 @@ use Rattle.bags.specs.SortLaws.{map-sort}
 use Rattle.rdf_meaning.specs.Terms.{RdfTerm, RdfTriple}
 use Rattle.rdf_meaning.specs.TermOrder.{place_order}
 use Rattle.line_meaning.specs.declared.change.Change.{Change}
-use Rattle.pattern_query.specs.Places.{NamedPattern}
 use Rattle.query_meaning.specs.AnswerText.{answer_text}
 use Rattle.line_meaning.specs.Present.{present}
 use Rattle.query_meaning.specs.declared.modifiers.Key.{Key}
@@ -30,8 +29,7 @@ use Rattle.query_meaning.specs.Leaf.{leaf, matches, bound, instance_is}
 use Rattle.query_meaning.specs.Answer.{Row, row_of, row_order, past, all_keys, ordered_answer}
 use Rattle.algebra_laws.specs.OrderedAnswer.{order-same}
 use Rattle.algebra_laws.specs.OneLeaf.{leaf_one}
-use Rattle.pattern_query.specs.Shown.{numbers_from, all_shown, pattern_answer_text}
-use Rattle.pattern_answer.specs.Rows.{is_match, row_at, plain_order, sorted_matches, plain_answer_text}
+use Rattle.pattern_answer.specs.Rows.{is_match, row_at, plain_order, sorted_matches, showing, pattern_text, plain_answer_text}
 use Rattle.plain_triples.specs.PresentLaws.{present_distinct}
 use Rattle.bags.specs.Bag.{SameBag}
 use Rattle.bags.specs.BagLaws.{same-refl, same-sym, same-trans, same-flat_map}
@@ -86,10 +84,8 @@ none_past : (rows : List Row) → map (past []) rows ≡ rows
 none_past [] = refl
 none_past (r ∷ rows) = ap (λ (rs : List Row). r ∷ rs) (none_past rows)
 
-plain_answer : (p : Pattern) (count : ℕ) (ts : List RdfTriple)
-    → ordered_answer (all_shown count) (flat_map (matches p) ts) ≡ map (row_at p (numbers_from 0 count)) (sorted_matches p (numbers_from 0 count) ts)
-plain_answer p count ts =
-    let shown : List ℕ = numbers_from 0 count in
+plain_answer : (p : Pattern) (shown : List ℕ) (ts : List RdfTriple) → ordered_answer (showing shown) (flat_map (matches p) ts) ≡ map (row_at p shown) (sorted_matches p shown ts)
+plain_answer p shown ts =
     let ms : List Mapping = flat_map (matches p) ts in
     let kept : List RdfTriple = filter (is_match p) ts in
     let rows : map (row_of (keys shown)) ms ≡ map (row_at p shown) kept = ap (λ (l : List Mapping). map (row_of (keys shown)) l) (matched p ts) ∙ rows_of p shown kept in
@@ -99,19 +95,13 @@ plain_answer p count ts =
     ∙ map-sort plain_order (row_at p shown) kept
 
 -- over what is present, whichever way the solutions are found, and in whichever order the triples stand
-pub answer_is : (p : Pattern) (count : ℕ) (cs : List Change) (kept : List RdfTriple) → SameBag kept (present cs) → pattern_in_width p ≡ true
-    → map (row_at p (numbers_from 0 count)) (sorted_matches p (numbers_from 0 count) kept) ≡ ordered_answer (all_shown count) (leaf (p ∷ []) (present cs))
-answer_is p count cs kept same w =
+pub answer_is : (p : Pattern) (shown : List ℕ) (cs : List Change) (kept : List RdfTriple) → SameBag kept (present cs) → pattern_in_width p ≡ true
+    → map (row_at p shown) (sorted_matches p shown kept) ≡ ordered_answer (showing shown) (leaf (p ∷ []) (present cs))
+answer_is p shown cs kept same w =
     let found : SameBag (flat_map (matches p) kept) (flat_map (matches p) (present cs)) = same-flat_map (matches p) (matches p) kept (present cs) same (λ t. same-refl (matches p t)) in
-    sym (plain_answer p count kept) ∙ order-same (all_shown count) _ _ (same-trans found (same-sym (leaf_one p (present cs) (present_distinct cs) w)))
-
-pub numbers_next : (n count : ℕ) → n < count → numbers_from n (count - n) ≡ n ∷ numbers_from (n + 1) (count - (n + 1))
-numbers_next n count lt = let more : count - n ≡ suc (count - (n + 1)) = omega arith in rw more refl
-
-pub number_pushed : (vs all : List ℕ) (n count : ℕ) → n < count → vs ++ numbers_from n (count - n) ≡ all → (vs ++ n ∷ []) ++ numbers_from (n + 1) (count - (n + 1)) ≡ all
-number_pushed vs all n count lt e = append_assoc vs (n ∷ []) (numbers_from (n + 1) (count - (n + 1))) ∙ ap (λ (t : List ℕ). vs ++ t) (sym (numbers_next n count lt)) ∙ e
+    sym (plain_answer p shown kept) ∙ order-same (showing shown) _ _ (same-trans found (same-sym (leaf_one p (present cs) (present_distinct cs) w)))
 
 -- over what is present, the text is the one that fits
-pub answer_fits : (q : NamedPattern) (kept : List RdfTriple) (text : List ℕ) → text ≡ plain_answer_text q kept → pattern_in_width q.pattern ≡ true
-    → (cs : List Change) → SameBag kept (present cs) → text ≡ pattern_answer_text q (present cs)
-answer_fits q kept text is w cs same = is ∙ ap (answer_text q.names) (answer_is q.pattern (length q.names) cs kept same w)
+pub answer_fits : (names : List (List ℕ)) (shown : List ℕ) (p : Pattern) (kept : List RdfTriple) (text : List ℕ) → text ≡ plain_answer_text names shown p kept → pattern_in_width p ≡ true
+    → (cs : List Change) → SameBag kept (present cs) → text ≡ pattern_text names shown p (present cs)
+answer_fits names shown p kept text is w cs same = is ∙ ap (answer_text names) (answer_is p shown cs kept same w)

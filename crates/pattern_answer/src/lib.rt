@@ -4,5 +4,6 @@
 mod lent;
 mod solutions;
 mod texts;
+mod widths;
 
 pub use texts::answer;

@@ -1,3 +1,18 @@
+//! Why what was read isn't run.
+
+use fragment_meaning::Feature;
+
+/// Why a text is no query of the fragment; places are in bytes, counted from 0.
+#[derive(Clone, Copy, Debug, PartialEq, Eq)]
+pub enum QueryFault {
+    /// A form of SPARQL that isn't in the fragment stands at this place.
+    NotInFragment { feature: Feature, at: usize },
+    /// The text breaks the grammar at this place.
+    Syntax { at: usize },
+    /// The prefix of the name at this place isn't declared before it.
+    UnknownPrefix { at: usize },
+}
+
 /// Why the SQL part of a file isn't run.
 #[derive(Clone, Copy, Debug, PartialEq, Eq)]
 pub enum SqlFault {

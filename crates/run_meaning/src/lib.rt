@@ -7,6 +7,6 @@ mod status;
 mod which;
 
 pub use command::{Command, Layout, Options};
-pub use fault::SqlFault;
+pub use fault::{QueryFault, SqlFault};
 pub use status::Status;
 pub use which::Which;

@@ -4,7 +4,7 @@ ghost use Rattle.std.specs.Prelude.{◌≡◌};
 ghost use Rattle.run_meaning.specs.Codes.{code_of};
 ghost use Rattle.run_meaning.specs.declared.status.Status.TheVariants.{NoMemory};
 
-use crate::fault::SqlFault;
+use crate::fault::{QueryFault, SqlFault};
 use crate::which::Which;
 use rdf_meaning::Text;
 use std::alloc::{AllocError, AllocFailed};
@@ -18,6 +18,8 @@ pub enum Status {
     Usage,
     /// This line of the data file is the first one that is out of the grammar.
     BadData { line: u64 },
+    /// The query is refused.
+    BadQuery { why: QueryFault },
     /// A quantity passed its limit.
     Limit { which: Which },
     /// A read of this file failed.
@@ -28,6 +30,9 @@ pub enum Status {
     BadTables { line: u64 },
     /// The SQL part of a file is out of the grammar, too deep, or doesn't bind.
     BadSql { why: SqlFault },
+    /// This line of the colouring file is the first one that is out of the grammar, names a column that its side doesn't have, or
+    /// an IRI that stood on a line of this side before.
+    BadColouring { line: u64 },
     /// What was asked for isn't built yet.
     NotYet,
     NoMemory,
@@ -42,11 +47,13 @@ impl Status {
             Status::Done => 0,
             Status::Usage => 2,
             Status::BadData { .. } => 3,
+            Status::BadQuery { .. } => 4,
             Status::Limit { .. } => 5,
             Status::ReadFault { .. } => 6,
             Status::WriteFault => 7,
             Status::BadTables { .. } => 8,
             Status::BadSql { .. } => 9,
+            Status::BadColouring { .. } => 10,
             Status::NotYet => 20,
             Status::NoMemory => 70,
         }

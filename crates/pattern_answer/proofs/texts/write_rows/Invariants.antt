@@ -5,4 +5,4 @@ use Rattle.pattern_answer.specs.Rows.{row_at}
 use Rattle.pattern_answer.proofs.texts.write_rows.Given as goal
 
 abbrev pub invariant-loop-triple : goal.invariant-loop-triple
-invariant-loop-triple l = l.text.items ≡ l.initial.text.items ++ flat_map (λ t. row_text (row_at l.query.pattern l.shown t)) (take l.triple-index l.triples)
+invariant-loop-triple l = l.text.items ≡ l.initial.text.items ++ flat_map (λ t. row_text (row_at l.pattern l.shown t)) (take l.triple-index l.triples)

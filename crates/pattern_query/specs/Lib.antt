@@ -1,5 +1,0 @@
-pub mod Places
-pub mod Fronts
-pub mod Texts
-pub mod Cuts
-pub mod Shown

@@ -1,0 +1,2 @@
+pub mod OnePattern
+pub mod Asks

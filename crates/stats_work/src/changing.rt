@@ -1,0 +1,49 @@
+//! Single changes of a store, within the limits.
+
+ghost use Rattle.std.specs.Prelude.{◌≡◌, OnOk, IfErr, None};
+ghost use Rattle.line_meaning.specs.declared.change.Change.TheVariants.{Add};
+ghost use Rattle.standing_meaning.specs.Changes.{stored_in};
+ghost use Rattle.placed_meaning.specs.Placed.{changed_in};
+ghost use Rattle.plain_triples.specs.Refusals.{Refuses};
+ghost use Rattle.stats_work.specs.Limited.{LeavesIds, HoldsAfter, limit_at};
+
+use line_meaning::Change;
+use plain_triples::LoadRefusal;
+use rdf_layout::{Store, StoreRefusal};
+use rdf_terms::Triple;
+use run_meaning::Which;
+use std::alloc::Global;
+
+// Puts a triple in. Where list ids are left on both sides, it needs none that there isn't.
+fn add(store: &mut Store, alloc: Global, t: &Triple) -> Result<(), LoadRefusal>
+    requires { LeavesIds store.old }
+    ensures stored { OnOk result (store.new ≡ stored_in store.old t.now) }
+    ensures holds { OnOk result (HoldsAfter store.old (Add t.now) store.new) }
+    ensures within { OnOk result (limit_at store.old (Add t.now) ≡ None) }
+    ensures passed { IfErr result (λ e. Refuses e (limit_at store.old (Add t.now))) }
+{
+    match store.insert(alloc, t) {
+        Ok(_) => Ok(()),
+        Err(StoreRefusal::NoMemory) => Err(LoadRefusal::NoMemory),
+        Err(StoreRefusal::Triples) => Err(LoadRefusal::Limit(Which::Triples)),
+        Err(StoreRefusal::Terms) => Err(LoadRefusal::Limit(Which::Terms)),
+        Err(StoreRefusal::Lists) => unreachable!(),
+    }
+}
+
+/// Makes a change.
+pub(crate) fn make(store: &mut Store, alloc: Global, change: &Change) -> Result<(), LoadRefusal>
+    requires { LeavesIds store.old }
+    ensures changed { OnOk result (store.new ≡ changed_in store.old change.now) }
+    ensures holds { OnOk result (HoldsAfter store.old change.now store.new) }
+    ensures within { OnOk result (limit_at store.old change.now ≡ None) }
+    ensures passed { IfErr result (λ e. Refuses e (limit_at store.old change.now)) }
+{
+    match change {
+        Change::Add(triple) => add(store, alloc, triple),
+        Change::Delete(triple) => {
+            let _ = store.delete(triple);
+            Ok(())
+        }
+    }
+}

@@ -15,7 +15,7 @@ use Rattle.standing_meaning.proofs.Each.{any-weaker}
 use Rattle.shredder.specs.declared.bulk.Placed.{Placed}
 use Rattle.shredder.specs.Items.{item_of}
 use Rattle.columns_meaning.specs.BulkColours.{preds_under, entities_of}
-use Rattle.bulk_columns.specs.Entities.{is_pair}
+use Rattle.bulk_columns.specs.Entities.{is_pair, has_both, JoinAlike}
 
 -- one item more
 or_assoc : (a b c : Bool) → ((a || b) || c) ≡ (a || (b || c))
@@ -50,11 +50,7 @@ under_is e p (x ∷ xs) = by (x.entity == e) refl (nat_eq e x.entity) refl (unde
     by false t true u ih = absurd (grind arith)
     by false t false u ih = ih
 
--- both predicates are among these
-abbrev pub has_both : ℕ → ℕ → List ℕ → Bool
-has_both p q preds = has p preds && has q preds
-
-and-parts : (a b : Bool) → (a && b) ≡ true → (a ≡ true) × (b ≡ true)
+pub and-parts : (a b : Bool) → (a && b) ≡ true → (a ≡ true) × (b ≡ true)
 and-parts true b e = (refl, e)
 and-parts false b e = cc
 
@@ -153,12 +149,13 @@ once-more p entities = any-same (has p) (has_both p p) (λ preds. twice (has p p
     twice true = refl
     twice false = refl
 
--- the graph of the map's entities is that of the items'
-pub items_interfere : (g graph : Graph) (items : List Item) → IsStrictlySortedBy nat_cmp (keys_of g) → ((e p : ℕ) → has p (neighbours_of g e) ≡ list_any (is_pair e p) items) → IsInterference (values_of g) graph → IsInterference (entities_of items) graph
+-- a graph of lists that join alike is that of the items' entities
+pub items_interfere : (sets : List (List ℕ)) (g graph : Graph) (items : List Item) → JoinAlike sets (values_of g) → IsStrictlySortedBy nat_cmp (keys_of g)
+    → ((e p : ℕ) → has p (neighbours_of g e) ≡ list_any (is_pair e p) items) → IsInterference sets graph → IsInterference (entities_of items) graph
 unfolding AreTold
-items_interfere g graph items s h i = record {
+items_interfere sets g graph items alike s h i = record {
   rising = i.rising;
-  preds = λ p. i.preds p ∙ once-more p (values_of g) ∙ any-both g items p p s h ∙ sym (once-more p (entities_of items));
+  preds = λ p. i.preds p ∙ once-more p sets ∙ alike p p ∙ any-both g items p p s h ∙ sym (once-more p (entities_of items));
   once = i.once;
-  joined = λ p q. i.joined p q ∙ ap (λ (b : Bool). not (nat_eq q p) && b) (any-both g items p q s h);
+  joined = λ p q. i.joined p q ∙ ap (λ (b : Bool). not (nat_eq q p) && b) (alike p q ∙ any-both g items p q s h);
 }

@@ -1,2 +1,3 @@
 pub mod ByEntity
 pub mod Colours
+pub mod Distinct

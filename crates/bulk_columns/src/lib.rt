@@ -5,5 +5,6 @@ mod columns;
 mod entities;
 mod graph;
 mod pairs;
+mod sets;
 
 pub use columns::columns_for;

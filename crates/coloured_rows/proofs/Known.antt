@@ -20,8 +20,8 @@ use Rattle.standing_meaning.proofs.Each.{any-weaker}
 use Rattle.bulk_meaning.specs.Bulk.{by_entity, empty_side, placed_all}
 use Rattle.bulk_laws.specs.BulkStore.{HaveCandidates}
 use Rattle.columns_meaning.specs.BulkColours.{preds_under, entities_of, AreBulkColours}
-use Rattle.bulk_columns.specs.Entities.{is_pair}
-use Rattle.bulk_columns.proofs.ByEntity.{under_is, has_both, pick}
+use Rattle.bulk_columns.specs.Entities.{is_pair, has_both}
+use Rattle.bulk_columns.proofs.ByEntity.{under_is, pick}
 use Rattle.coloured_rows.specs.OneRow.{TellApart, ColouredEntitiesHaveOneRow}
 use Rattle.coloured_rows.proofs.Places.{OwnColumns, all-fit, given-length}
 

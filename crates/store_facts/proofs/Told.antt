@@ -22,7 +22,7 @@ use Rattle.standing_meaning.proofs.Terms.{id-numbered, term_at-has}
 use Rattle.store_laws.proofs.Same.{known-term}
 use Rattle.stats_laws.proofs.Counts.{spilled-same}
 use Rattle.stats_laws.proofs.Says.{says}
-use Rattle.store_facts.specs.Facts.{is_spilled_term, id_told, ids_told, AreFacts, AreIds, store_facts, store_ids}
+use Rattle.facts_meaning.specs.Facts.{is_spilled_term, id_told, ids_told, AreFacts, AreIds, store_facts, store_ids}
 
 pub id-is : (terms : List RdfTerm) (t : RdfTerm) (n : ℕ) → IsDistinct same_term terms → HasId terms t n → n ≡ id_of (entries_of terms) t
 id-is terms t n d h = (let a = h.0 in let k : 1 + (n - 1) ≡ n = omega arith in sym (id-numbered 1 (n - 1) t terms d h.1 ∙ k))

@@ -4,7 +4,7 @@ ghost use Rattle.std.specs.Prelude.{◌≡◌, IfOk};
 ghost use Rattle.std.specs.List.{IsDistinct};
 ghost use Rattle.rdf_meaning.specs.Terms.{same_term};
 ghost use Rattle.standing_meaning.specs.Dictionary.{entries_of, id_of};
-ghost use Rattle.store_facts.specs.Facts.{id_told, ids_told};
+ghost use Rattle.facts_meaning.specs.Facts.{id_told, ids_told};
 
 use pred_columns::{IdPair, QueryIds};
 use rdf_terms::Term;

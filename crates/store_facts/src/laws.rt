@@ -3,7 +3,7 @@
 ghost use Rattle.std.specs.Prelude.{List};
 ghost use Rattle.rdf_meaning.specs.Terms.{RdfTerm};
 ghost use Rattle.standing_meaning.specs.Stored.{StoreOf, IsStore, layout_of, tables_of, stored_triples};
-ghost use Rattle.store_facts.specs.Facts.{AreFacts, AreIds, store_facts, store_ids};
+ghost use Rattle.facts_meaning.specs.Facts.{AreFacts, AreIds, store_facts, store_ids};
 
 /// The facts and the ids of a store are those of its tables.
 pub fn stores_tell()

@@ -6,7 +6,7 @@ ghost use Rattle.rdf_meaning.specs.Terms.{same_term};
 ghost use Rattle.standing_meaning.specs.Dictionary.{entries_of};
 ghost use Rattle.standing_meaning.specs.Contents.{side_contents};
 ghost use Rattle.standing_meaning.specs.Changes.{with_term};
-ghost use Rattle.store_facts.specs.Facts.{is_spilled_term, spilled_among};
+ghost use Rattle.facts_meaning.specs.Facts.{is_spilled_term, spilled_among};
 
 use primary_rows::Side;
 use rdf_terms::Term;

@@ -1,4 +1,4 @@
-use Rattle.std.proofs.Common.{◌∙◌, ℕ, List, map, ap, subst}
+use Rattle.std.proofs.Common.{ℕ, List, map, ap, subst}
 use Rattle.std.proofs.lemmas.Result.{IfOk-weaker}
 use Rattle.colour_meaning.specs.Interference.{IsInterference}
 use Rattle.pred_colour.specs.Entities.{preds_of}
@@ -9,6 +9,7 @@ use Rattle.bulk_columns.proofs.graph.graph_of.Goals as goal
 pub returns : goal.returns
 returns c =
     IfOk-weaker c.interference.result _ _
-    (λ g e. items_interfere c.in_ok-entities.entities.entries g (map item_of c.args.placed.now) c.in_ok-entities.ensures.rising c.in_ok-entities.ensures.preds
-    (subst (λ (es : List (List ℕ)). IsInterference es g) (ap (map preds_of) c.as_slice.ensures.value ∙ c.in_ok-list.ensures) e))
+    (λ g e. items_interfere (map preds_of c.in_ok-list.list.items) c.in_ok-entities.entities.entries g (map item_of c.args.placed.now) c.in_ok-list.ensures c.in_ok-entities.ensures.rising
+    c.in_ok-entities.ensures.preds
+    (subst (λ (es : List (List ℕ)). IsInterference es g) (ap (map preds_of) c.as_slice.ensures.value) e))
     c.interference.ensures

@@ -1,6 +1,6 @@
 use Rattle.std.proofs.Common.{◌≡◌, take}
 use Rattle.standing_meaning.specs.Dictionary.{entries_of}
-use Rattle.store_facts.specs.Facts.{ids_told}
+use Rattle.facts_meaning.specs.Facts.{ids_told}
 use Rattle.store_facts.proofs.ids.ids_of.Given as goal
 
 abbrev pub invariant-loop-at : goal.invariant-loop-at

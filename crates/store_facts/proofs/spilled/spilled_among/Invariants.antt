@@ -1,7 +1,7 @@
 use Rattle.std.proofs.Common.{◌≡◌, take}
 use Rattle.standing_meaning.specs.Dictionary.{entries_of}
 use Rattle.standing_meaning.specs.Contents.{side_contents}
-use Rattle.store_facts.specs.Facts.{spilled_among}
+use Rattle.facts_meaning.specs.Facts.{spilled_among}
 use Rattle.store_facts.proofs.spilled.spilled_among.Given as goal
 
 abbrev pub invariant-loop-at : goal.invariant-loop-at

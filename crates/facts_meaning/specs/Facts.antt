@@ -58,3 +58,8 @@ store_facts s preds = facts_told (layout_of s) (store_contents s) preds
 
 abbrev pub store_ids : StoreOf → List RdfTerm → List IdOf
 store_ids s terms = ids_told (store_contents s).terms terms
+
+-- tables that stand for triples have these ids and these facts: over the terms that the ids name, both are theirs
+pub record HaveFacts (layout : LayoutOf) (tables : List NamedTable) (g : List RdfTriple) (ids : List IdOf) (facts : FactsOf) : Type 0 where
+  pub same_ids : AreIds layout tables g (map (λ (i : IdOf). i.term) ids) ids
+  pub same_facts : AreFacts layout tables g (map (λ (i : IdOf). i.term) ids) facts

@@ -4,7 +4,7 @@ ghost use Rattle.std.specs.Prelude.{◌≡◌, IfOk};
 ghost use Rattle.std.specs.List.{IsDistinct};
 ghost use Rattle.rdf_meaning.specs.Terms.{same_term};
 ghost use Rattle.standing_meaning.specs.Changes.{store_of};
-ghost use Rattle.store_facts.specs.Facts.{store_facts};
+ghost use Rattle.facts_meaning.specs.Facts.{store_facts};
 
 use pred_columns::{LayoutFacts, Spilled};
 use rdf_terms::Term;

@@ -9,7 +9,7 @@ ghost use Rattle.standing_meaning.specs.Standing.{StandsFor};
 ghost use Rattle.standing_meaning.specs.Stored.{IsStore, layout_of, tables_of, stored_triples};
 ghost use Rattle.standing_meaning.specs.Changes.{is_stored, stored_in, taken_out, IsRefused};
 ghost use Rattle.stats_meaning.specs.Statistics.{AreStats, AreSideStats};
-ghost use Rattle.store_facts.specs.Facts.{AreFacts, AreIds};
+ghost use Rattle.facts_meaning.specs.Facts.{AreFacts, AreIds};
 ghost use Rattle.counts_meaning.specs.Counts.{AreCounts};
 ghost use Rattle.layout_tables.specs.RowOrder.{StandInOrder};
 ghost use Rattle.rdf_layout.specs.Refused.{Refuses, HasRoom};
@@ -100,10 +100,10 @@ impl Store {
         Ok(Store { book, sides })
     }
 
-    /// Stores a triple. There comes exactly where it is stored. It is refused exactly where it is new and
-    /// 1,000,000 triples are stored, else where its terms would pass 4,000,000, else where a side needs a
-    /// list after the last list id was given out. After a refusal the rows and lists are as before; its
-    /// terms may be noted, and at most one list id used up.
+    /// Stores a triple. There comes exactly where it is stored, and changes nothing. It is refused exactly
+    /// where it is new and 1,000,000 triples are stored, else where its terms would pass 4,000,000, else where
+    /// a side needs a list after the last list id was given out. After a refusal the rows and lists are as
+    /// before; its terms may be noted, and at most one list id used up.
     pub fn insert(&mut self, alloc: Global, t: &Triple) -> Result<Put, StoreRefusal>
         ensures stored { OnOk result (self.new ≡ stored_in self.old t.now) }
         ensures put { IfOk result (λ put. put ≡ put_of (is_stored self.old t.now)) }
@@ -112,15 +112,17 @@ impl Store {
         ensures err { OnErr result (IsRefused self.old t.now self.new) }
         ensures triples { OnOk result (SameBag (stored_triples self.new) (if is_stored self.old t.now then stored_triples self.old else t.now ∷ stored_triples self.old)) }
         ensures same { OnErr result (stored_triples self.new ≡ stored_triples self.old) }
+        ensures there { result ≡ Ok Put.There → self.new ≡ self.old }
         ensures store { IsStore self.new }
     {
         put(&mut self.book, &mut self.sides, alloc, t)
     }
 
-    /// Takes a triple out. Absent comes exactly where it isn't stored. It takes no memory.
+    /// Takes a triple out. Absent comes exactly where it isn't stored, and changes nothing. It takes no memory.
     pub fn delete(&mut self, t: &Triple) -> Took
         ensures stored { self.new ≡ taken_out self.old t.now }
         ensures took { result ≡ took_of (is_stored self.old t.now) }
+        ensures absent { result ≡ Took.Absent → self.new ≡ self.old }
         ensures triples { SameBag (if is_stored self.old t.now then t.now ∷ stored_triples self.new else stored_triples self.new) (stored_triples self.old) }
         ensures store { IsStore self.new }
     {

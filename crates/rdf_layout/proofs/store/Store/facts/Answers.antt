@@ -4,7 +4,7 @@ use Rattle.std.proofs.lemmas.Result.{IfOk-weaker}
 use Rattle.layout_meaning.specs.Facts.{FactsOf}
 use Rattle.standing_meaning.specs.Stored.{StoreOf, layout_of, tables_of, stored_triples}
 use Rattle.standing_meaning.specs.Changes.{store_of}
-use Rattle.store_facts.specs.Facts.{AreFacts}
+use Rattle.facts_meaning.specs.Facts.{AreFacts}
 use Rattle.rdf_layout.proofs.store.Store.facts.Goals as goal
 
 pub facts_of-requires : goal.facts_of-requires

@@ -4,7 +4,7 @@ use Rattle.std.proofs.lemmas.Result.{IfOk-weaker}
 use Rattle.layout_meaning.specs.Facts.{IdOf}
 use Rattle.standing_meaning.specs.Stored.{StoreOf, layout_of, tables_of, stored_triples}
 use Rattle.standing_meaning.specs.Changes.{store_of}
-use Rattle.store_facts.specs.Facts.{AreIds}
+use Rattle.facts_meaning.specs.Facts.{AreIds}
 use Rattle.rdf_layout.proofs.store.Store.ids.Goals as goal
 
 pub ids_of-requires : goal.ids_of-requires

@@ -1,11 +1,12 @@
-use Rattle.std.proofs.Common.{◌≡◌, ◌∷◌, if◌then◌else◌, subst}
+use Rattle.std.proofs.Common.{◌≡◌, ◌∷◌, if◌then◌else◌, Ok, subst}
 use Rattle.std.specs.Prelude.{OnOk, OnErr}
 use Rattle.std.proofs.lemmas.Result.{on_ok_weaker, on_err_weaker}
 use Rattle.bags.specs.Bag.{SameBag}
 use Rattle.standing_meaning.specs.Stored.{StoreOf, stored_triples}
 use Rattle.standing_meaning.specs.Changes.{store_of, is_stored}
 use Rattle.standing_meaning.proofs.Changed.{triples-refused}
-use Rattle.rdf_layout.proofs.Keeping.{put-in_order, held-after_put}
+use Rattle.value_lists.specs.declared.lists.Put.TheVariants.{There}
+use Rattle.rdf_layout.proofs.Keeping.{put-in_order, held-after_put, there-same}
 use Rattle.rdf_layout.proofs.store.Store.insert.Goals as goal
 
 pub invariant_of-self : goal.invariant_of-self
@@ -27,3 +28,10 @@ returns-clause-same c =
     let new : StoreOf = store_of c.put.new.book c.put.new.sides in
     subst (λ (w : StoreOf). OnErr c.put.result (stored_triples new ≡ stored_triples w)) c.self.view_is
     (on_err_weaker c.put.result (triples-refused s c.args.t.now new c.self.invariant.0 c.put.ensures.form) c.put.ensures.err)
+
+pub returns-clause-there : goal.returns-clause-there
+returns-clause-there c =
+    let s : StoreOf = store_of c.self.inside.book c.self.inside.sides in
+    let new : StoreOf = store_of c.put.new.book c.put.new.sides in
+    subst (λ (w : StoreOf). c.put.result ≡ Ok There → new ≡ w) c.self.view_is
+    (there-same c.put.result s new c.args.t.now c.self.invariant.0 c.put.ensures.form c.put.ensures.put c.put.ensures.stored)

@@ -9,3 +9,5 @@ mod rows;
 mod steps;
 #[cfg(test)]
 mod told;
+#[cfg(test)]
+mod written;

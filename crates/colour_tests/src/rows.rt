@@ -92,3 +92,24 @@ fn coloured_rows_stand(rt: HostRuntime) -> Result<(), Fail> {
     }
     Ok(())
 }
+
+const CROSSED: &str =
+    "<u:a> <u:p> \"1\" .\n<u:b> <u:p> \"1\" .\n<u:b> <u:p> \"2\" .\n<u:a> <u:p> \"2\" .\n";
+
+// The lists of a bulk count by their entities, and those of later triples by the time when they were made.
+#[test]
+fn lists_are_numbered(rt: HostRuntime) -> Result<(), Fail> {
+    let alloc = rt.alloc();
+    for (bulk, later, want) in [
+        (CROSSED, "", " 1 0 2 -1\n 4 0 2 -2\n"),
+        ("", CROSSED, " 1 0 2 -2\n 4 0 2 -1\n"),
+    ] {
+        let store = store_of(alloc, bulk, later, 1, "hashed")?;
+        assert_eq!(rt;
+            table_text(alloc, &store, 0)?.as_slice(),
+            want.as_bytes(),
+            "{later}"
+        );
+    }
+    Ok(())
+}

@@ -67,11 +67,11 @@ fn load(alloc: Global, triples: &[Triple], choice: &LayoutChoice) -> Result<Stor
     Store::load(alloc, triples, choice, 1)
 }
 
-// A store of the triples of data lines, with these direct columns and 8 reverse ones.
-fn load_lines(alloc: Global, data: &str, direct: u32, way: &str) -> Result<Store, Fail> {
+// A store of the triples of data lines, with these columns on the direct and the reverse side.
+fn load_lines(alloc: Global, data: &str, columns: (u32, u32), way: &str) -> Result<Store, Fail> {
     let changes = changes_of(alloc, data)?;
     let triples = added(alloc, changes.as_slice())?;
-    let choice = chosen(alloc, direct, 8, way)??;
+    let choice = chosen(alloc, columns.0, columns.1, way)??;
     Ok(load(alloc, triples.as_slice(), &choice)?)
 }
 
@@ -90,7 +90,22 @@ fn make_all(alloc: Global, store: &mut Store, changes: &[Change]) -> Result<(), 
     Ok(())
 }
 
-/// A store of the triples of data lines, after the changes of later ones.
+/// A store of the triples of data lines, after the changes of later ones, with these columns on the direct and
+/// the reverse side.
+pub(crate) fn store_by(
+    alloc: Global,
+    bulk: &str,
+    later: &str,
+    columns: (u32, u32),
+    way: &str,
+) -> Result<Store, Fail> {
+    let changes = changes_of(alloc, later)?;
+    let mut store = load_lines(alloc, bulk, columns, way)?;
+    make_all(alloc, &mut store, changes.as_slice())?;
+    Ok(store)
+}
+
+/// Such a store with 8 reverse columns.
 pub(crate) fn store_of(
     alloc: Global,
     bulk: &str,
@@ -98,8 +113,5 @@ pub(crate) fn store_of(
     direct: u32,
     way: &str,
 ) -> Result<Store, Fail> {
-    let changes = changes_of(alloc, later)?;
-    let mut store = load_lines(alloc, bulk, direct, way)?;
-    make_all(alloc, &mut store, changes.as_slice())?;
-    Ok(store)
+    store_by(alloc, bulk, later, (direct, 8), way)
 }

@@ -1,4 +1,5 @@
 use crate::runs::{run_on, shelf};
+use std::alloc::{AllocError, Global};
 use std::test::Fail;
 
 const DATA: &str = "<u:a> <u:p> <u:b> .\n";
@@ -37,18 +38,47 @@ fn failed_reads_name_their_file(rt: HostRuntime) -> Result<(), Fail> {
     Ok(())
 }
 
+const CANNOT_WRITE: &str = "db2rdf: cannot write\n";
+
 #[test]
 fn a_full_output_keeps_a_front(rt: HostRuntime) -> Result<(), Fail> {
     let alloc = rt.alloc();
-    for (room, code) in [(0, 7), (5, 7), (6, 7), (17, 7), (18, 0)] {
+    for (room, code, line) in [
+        (0, 7, CANNOT_WRITE),
+        (5, 7, CANNOT_WRITE),
+        (6, 7, CANNOT_WRITE),
+        (17, 7, CANNOT_WRITE),
+        (18, 0, ""),
+    ] {
         let mut shelf = shelf(alloc, DATA, QUERY)?;
         let ran = run_on(alloc, &mut shelf, &["query", "d", "q"], room, 1000)?;
         assert_eq!(rt; ran.code, code, "room {room}");
+        assert_eq!(rt; ran.err.bytes(), line.as_bytes(), "room {room}");
         assert_eq!(rt;
             ran.out.bytes(),
             &b"?s\t?o\n<u:a>\t<u:b>\n"[..room],
             "room {room}"
         );
+    }
+    Ok(())
+}
+
+#[test]
+fn failed_writes_are_told(rt: HostRuntime) -> Result<(), Fail> {
+    let alloc = rt.alloc();
+    let script = "tables 1\n-- sql\nSELECT 1 AS a";
+    let cases: [(&[&str], usize, u8, &str, &str); 4] = [
+        (&["stats", "d"], 17, 7, "triples 1\nterms 3", CANNOT_WRITE),
+        (&["exec", "q"], 0, 7, "", CANNOT_WRITE),
+        (&["exec", "q"], 3, 7, "a\n1", CANNOT_WRITE),
+        (&["exec", "q"], 4, 0, "a\n1\n", ""),
+    ];
+    for (words, room, code, out, line) in cases {
+        let mut shelf = shelf(alloc, DATA, script)?;
+        let ran = run_on(alloc, &mut shelf, words, room, 1000)?;
+        assert_eq!(rt; ran.code, code, "{words:?} {room}");
+        assert_eq!(rt; ran.out.bytes(), out.as_bytes(), "{words:?} {room}");
+        assert_eq!(rt; ran.err.bytes(), line.as_bytes(), "{words:?} {room}");
     }
     Ok(())
 }
@@ -118,6 +148,38 @@ fn long_lines_and_queries_pass_limits(rt: HostRuntime) -> Result<(), Fail> {
     Ok(())
 }
 
+// The lines of so many triples.
+fn lines_of(alloc: Global, count: u32) -> Result<String, AllocError> {
+    let mut data = String::new(alloc);
+    for number in 0..count {
+        let line = format!(in alloc; "<u:s{number}> <u:p> <u:o> .\n")?;
+        data.push_str(line.as_str())?;
+    }
+    Ok(data)
+}
+
+// A query is judged before the triples of its data are counted.
+#[test]
+fn what_is_not_built_goes_before_too_many_triples(rt: HostRuntime) -> Result<(), Fail> {
+    let alloc = rt.alloc();
+    let data = lines_of(alloc, 1_000_001)?;
+    for (query, code, line) in [
+        (QUERY, 5, "db2rdf: limit: triples\n"),
+        (
+            "SELECT * { ?s <u:p> ?o . ?s <u:q> ?o }",
+            20,
+            "db2rdf: not built yet\n",
+        ),
+    ] {
+        let mut shelf = shelf(alloc, data.as_str(), query)?;
+        let ran = run_on(alloc, &mut shelf, &["query", "d", "q"], 1000, 1000)?;
+        assert_eq!(rt; ran.code, code, "{query}");
+        assert_eq!(rt; ran.out.bytes().len(), 0, "{query}");
+        assert_eq!(rt; ran.err.bytes(), line.as_bytes(), "{query}");
+    }
+    Ok(())
+}
+
 // What the words alone make the program say.
 fn line_of(code: u8) -> &'static str {
     match code {
@@ -132,7 +194,7 @@ fn line_of(code: u8) -> &'static str {
 #[test]
 fn words_are_judged_before_files(rt: HostRuntime) -> Result<(), Fail> {
     let alloc = rt.alloc();
-    let cases: [(&[&str], u8); 15] = [
+    let cases: [(&[&str], u8); 17] = [
         (&[], 2),
         (&["query"], 2),
         (&["query", "d", "--q"], 2),
@@ -163,7 +225,10 @@ fn words_are_judged_before_files(rt: HostRuntime) -> Result<(), Fail> {
             0,
         ),
         (&["drill", "100000", "4294967295"], 20),
+        // None of these reads a file: there is no `x` and no `y`.
         (&["show", "--reverse", "1", "x", "y"], 20),
+        (&["plan", "x", "y"], 20),
+        (&["plan", "--colouring", "x", "x", "y"], 20),
     ];
     for (texts, code) in cases {
         let mut shelf = shelf(alloc, DATA, QUERY)?;

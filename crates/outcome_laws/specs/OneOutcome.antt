@@ -1,4 +1,4 @@
--- A command over texts asks for one thing.
+-- A command over texts asks for one thing at most.
 use Rattle.std.specs.Prelude.{◌≡◌, ℕ, Bool, true, false, List, drop, length, Result, Ok, Err, nat_lt}
 use Rattle.std.specs.Bool.{MatchBool}
 use Rattle.std.proofs.Common.{refl, sym, ap, subst, ◌∙◌}

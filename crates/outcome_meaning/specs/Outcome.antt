@@ -182,7 +182,7 @@ abbrev pub BehindBoth : Options → Texts → List ℕ → (List ColourOf → Li
 BehindBoth options texts data_name Asks o = Behind (colours_for options texts) (λ colours. Behind (judged_data (texts data_name)) (Asks colours)) o
 
 -- what a command asks for, where its files have these texts: the work, or the first status that applies. Each command and
--- texts ask for one thing.
+-- texts ask for one thing at most.
 abbrev pub Asks : Command → Texts → Result Work Status → Type 0
 Asks (Query options data_name query_name) texts o = BehindBoth options texts data_name (λ colours changes. AnswerAsks changes (texts query_name)) o
 Asks (Exec pieces file_name) texts o = FileAsks (texts file_name) o

@@ -1,47 +1,26 @@
--- Predicates that are joined, list by list.
-use Rattle.std.proofs.Common.{◌≡◌, ◌<◌, ◌+◌, ℕ, nat_eq, not, ◌&&◌, ◌||◌, Bool, true, false, List, [], ◌∷◌, is_some, map, take, get_or, length, refl, sym, ap, ◌∙◌}
+-- Predicates that are joined, row by row.
+use Rattle.std.proofs.Common.{◌≡◌, ◌<◌, ℕ, nat_eq, not, ◌&&◌, ◌||◌, Bool, true, false, List, [], ◌∷◌, map, get_or, length, refl, sym, ap, ap₂, ◌∙◌, arith}
 use Rattle.std.specs.List.{list_any}
+use Rattle.std.specs.List.Sorted.{IsStrictlySortedBy}
 use Rattle.std.specs.Ordering.{nat_cmp}
-use Rattle.std.specs.BTreeMap.{is_at}
-use Rattle.std.specs.Map.{lookup, keys_of}
-use Rattle.std.proofs.lemmas.Map.Made.{is_some-lookup}
-use Rattle.std.proofs.lemmas.List.Folds.{list_any_more}
-use Rattle.colour_meaning.specs.Interference.{Graph, has, interfere}
-use Rattle.colour_meaning.proofs.Steps.{any-same, is_at-same}
+use Rattle.std.proofs.lemmas.Bool.{or_parts}
+use Rattle.std.proofs.lemmas.List.Folds.{list_any_at}
+use Rattle.colour_meaning.specs.Interference.{has, interfere}
+use Rattle.pred_colour.specs.Entities.{are_joined}
+use Rattle.pred_colour.specs.GraphRows.{pred_at, stands_in, is_other, AreBelow}
+use Rattle.pred_colour.proofs.Members.{tests_of_both_if}
+use Rattle.pred_colour.proofs.Found.{has_place}
 
--- an entity has p, and q besides
-abbrev pub are_joined : ℕ → ℕ → List ℕ → Bool
-are_joined p q preds = has p preds && (not (nat_eq q p) && has q preds)
-
-or_assoc : (a b c : Bool) → ((a || b) || c) ≡ (a || (b || c))
-or_assoc true b c = refl
-or_assoc false b c = refl
-
-or_ands : (a n t x : Bool) → ((a || (t && n)) || (x && n)) ≡ (a || ((t || x) && n))
-or_ands true n t x = refl
-or_ands false n true true = by n
-  where
-    by : (n : Bool) → (n || n) ≡ n
-    by true = refl
-    by false = refl
-or_ands false true true false = refl
-or_ands false false true false = refl
-or_ands false n false x = refl
-
-any_take : {X : Type 0} (t : X → Bool) (xs : List X) (i : ℕ) (d : X) → i < length xs → (list_any t (take i xs) || t (get_or xs i d)) ≡ list_any t (take (i + 1) xs)
-any_take t xs i d l = sym (list_any_more t xs i d l)
-
-pub preds_more : (p : ℕ) (a : Bool) (xs : List ℕ) (i : ℕ) → i < length xs → ((a || has p (take i xs)) || nat_eq p (get_or xs i 0)) ≡ (a || has p (take (i + 1) xs))
-preds_more p a xs i l = or_assoc a (has p (take i xs)) (nat_eq p (get_or xs i 0)) ∙ ap (λ (b : Bool). a || b) (any_take (nat_eq p) xs i 0 l)
-
-pub joined_more : (p : ℕ) (n a : Bool) (xs : List ℕ) (i : ℕ) → i < length xs
-    → ((a || (has p (take i xs) && n)) || (nat_eq p (get_or xs i 0) && n)) ≡ (a || (has p (take (i + 1) xs) && n))
-joined_more p n a xs i l =
-    or_ands a n (has p (take i xs)) (nat_eq p (get_or xs i 0)) ∙ ap (λ (b : Bool). a || (b && n)) (any_take (nat_eq p) xs i 0 l)
+pub and_false : (b : Bool) → (b && false) ≡ false
+and_false true = refl
+and_false false = refl
 
 pub any-map : {X Y : Type 0} (t : Y → Bool) (f : X → Y) (xs : List X) → list_any t (map f xs) ≡ list_any (λ x. t (f x)) xs
 any-map t f [] = refl
 any-map t f (x ∷ xs) = ap (λ (b : Bool). t (f x) || b) (any-map t f xs)
+
+pub any_at : {X Y : Type 0} (t : Y → Bool) (f : X → Y) (xs : List X) (i : ℕ) (d : X) → i < length xs → t (f (get_or xs i d)) ≡ true → list_any t (map f xs) ≡ true
+any_at t f xs i d l h = any-map t f xs ∙ list_any_at (λ x. t (f x)) xs i d l h
 
 -- together they are those that interfere
 pub interfering : (p q : ℕ) (entities : List (List ℕ)) → list_any (are_joined p q) entities ≡ interfere entities p q
@@ -62,5 +41,34 @@ interfering p q entities = by (not (nat_eq q p))
     by true = refl
     by false = none entities
 
-pub has_keys : (p : ℕ) (g : Graph) → has p (keys_of g) ≡ is_some (lookup (is_at (nat_cmp p)) g)
-has_keys p g = any-same (nat_eq p) (is_at (nat_cmp p)) (λ q. sym (is_at-same p q)) (keys_of g) ∙ sym (is_some-lookup (is_at (nat_cmp p)) g)
+-- what no entity has is joined with nothing
+pub none_joined : (p q : ℕ) (entities : List (List ℕ)) → list_any (has p) entities ≡ false → list_any (are_joined p q) entities ≡ false
+none_joined p q [] h = refl
+none_joined p q (x ∷ xs) h =
+    let e = or_parts (has p x) (list_any (has p) xs) h in
+    ap₂ (λ (a b : Bool). (a && (not (nat_eq q p) && has q x)) || b) e.0 (none_joined p q xs e.1)
+
+-- an entity of one predicate joins nothing
+pub few_joined : (p q : ℕ) (preds : List ℕ) → length preds < 2 → are_joined p q preds ≡ false
+few_joined p q [] l = refl
+few_joined p q (x ∷ []) l = by (nat_eq p x) refl (nat_eq q x) refl
+  where
+    by : (a : Bool) → nat_eq p x ≡ a → (b : Bool) → nat_eq q x ≡ b → ((a || false) && (not (nat_eq q p) && (b || false))) ≡ false
+    by true h true k = let e : nat_eq q p ≡ true = grind arith in rw e refl
+    by true h false k = and_false (not (nat_eq q p))
+    by false h b k = refl
+few_joined p q (x ∷ y ∷ ys) l = absurd (omega arith)
+
+joins_more : (t s a c : Bool) → (t && (s || (a && c))) ≡ ((t && s) || (a && (t && c)))
+joins_more true s a c = refl
+joins_more false s a c = sym (and_false a)
+
+-- a row into which the places of an entity's predicates went, if its own place is among them
+pub row_joined : (all old new set places preds : List ℕ) (i q : ℕ) → IsStrictlySortedBy nat_cmp all → i < length all → AreBelow (length all) set → places ≡ set
+    → ((r : ℕ) → stands_in all set r ≡ has r preds) → ((n : ℕ) → has n new ≡ (has n old || (has i places && has n set)))
+    → is_other all new (pred_at all i) q ≡ (is_other all old (pred_at all i) q || are_joined (pred_at all i) q preds)
+row_joined all old new set places preds i q s l b e stand h =
+    let p = pred_at all i in
+    ap (λ (x : Bool). not (nat_eq q p) && x) (tests_of_both_if (λ j. nat_eq q (pred_at all j)) new old set (has i places) h)
+    ∙ joins_more (not (nat_eq q p)) (stands_in all old q) (has i places) (stands_in all set q)
+    ∙ ap₂ (λ (a c : Bool). is_other all old p q || (a && (not (nat_eq q p) && c))) (ap (has i) e ∙ has_place all set i s l b ∙ stand p) (stand q)

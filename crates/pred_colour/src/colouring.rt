@@ -1,8 +1,9 @@
 //! The greedy colouring.
 
 ghost use Rattle.std.specs.Prelude.{◌≡◌, ◌≤◌, ◌<◌, ◌+◌, ℕ, length, ◌||◌, take, map, slice_index_or, false, IfSome, IfOk, OnOk};
+ghost use Rattle.std.specs.List.{list_any};
 ghost use Rattle.std.specs.List.Sorted.{IsStrictlySortedBy};
-ghost use Rattle.colour_meaning.specs.Colouring.{rank, is_column, is_seen, IsLeastFree, AreColours, IsColouring};
+ghost use Rattle.colour_meaning.specs.Colouring.{rank, column_of, is_column, is_seen, IsLeastFree, AreColours, IsColouring};
 ghost use Rattle.pred_colour.specs.Given.{pair_of};
 
 use crate::colours::{Coloured, Colours};
@@ -33,13 +34,14 @@ fn colours_in(alloc: Global, graph: &Graph, k: u32, order: &[u32]) -> Result<Col
 {
     let mut colours = Colours::new(alloc);
     for at in 0..order.len() {
-        take_turn(&mut colours, graph, k, order, at)?;
+        take_turn(alloc, &mut colours, graph, k, order, at)?;
     }
     Ok(colours)
 }
 
 /// The predicate in this place takes its turn.
 fn take_turn(
+    alloc: Global,
     colours: &mut Colours,
     graph: &Graph,
     k: u32,
@@ -53,7 +55,8 @@ fn take_turn(
     ensures { OnOk result (AreColours graph.now k (take (at + 1) order.now) colours.new) }
 {
     let pred = order[at];
-    match free_column(graph, colours, pred, k) {
+    let free = free_column(alloc, graph, colours, pred, k)?;
+    match free {
         Some(column) => {
             colours.give(pred, column)?;
             Ok(())
@@ -63,20 +66,40 @@ fn take_turn(
 }
 
 /// The least column that no coloured neighbour has.
-fn free_column(graph: &Graph, colours: &Colours, pred: u32, k: u32) -> Option<u32>
+fn free_column(
+    alloc: Global,
+    graph: &Graph,
+    colours: &Colours,
+    pred: u32,
+    k: u32,
+) -> Result<Option<u32>, AllocError>
     requires { k ≤ 32 }
-    ensures { IsLeastFree (is_seen graph.now colours.now pred) k result }
+    ensures { IfOk result (λ column. IsLeastFree (is_seen graph.now colours.now pred) k column) }
 {
-    let seen = seen_columns(graph, colours, pred);
-    first_free(&seen, k)
+    let seen = seen_columns(alloc, graph, colours, pred)?;
+    Ok(first_free(&seen, k))
 }
 
-fn seen_columns(graph: &Graph, colours: &Colours, pred: u32) -> [bool; MOST_COLUMNS]
-    ensures { (c : ℕ) → c < 32 → slice_index_or result c false ≡ is_seen graph.now colours.now pred c }
+/// The columns that coloured neighbours have.
+fn seen_columns(
+    alloc: Global,
+    graph: &Graph,
+    colours: &Colours,
+    pred: u32,
+) -> Result<[bool; MOST_COLUMNS], AllocError>
+    ensures { IfOk result (λ seen. (c : ℕ) → c < 32 → slice_index_or seen c false ≡ is_seen graph.now colours.now pred c) }
+{
+    let neighbours = graph.neighbours(alloc, pred)?;
+    Ok(columns_of(colours, neighbours.as_slice()))
+}
+
+/// The columns that predicates have.
+fn columns_of(colours: &Colours, preds: &[u32]) -> [bool; MOST_COLUMNS]
+    ensures { (c : ℕ) → c < 32 → slice_index_or result c false ≡ list_any (λ q. is_column c (column_of colours.now q)) preds.now }
 {
     let mut seen = [false; MOST_COLUMNS];
-    for neighbour in graph.neighbours(pred) {
-        mark(&mut seen, colours.column_of(*neighbour));
+    for pred in preds {
+        mark(&mut seen, colours.column_of(*pred));
     }
     seen
 }

@@ -1,19 +1,21 @@
 //! The graph of predicates that interfere.
 
-ghost use Rattle.std.specs.Prelude.{◌≡◌, ◌&&◌, ◌||◌, [], ℕ, List, nat_eq, not, is_some, map, IfOk, OnOk};
-ghost use Rattle.std.specs.List.{IsDistinct};
+ghost use Rattle.std.specs.Prelude.{◌≡◌, ◌<◌, ℕ, nat_eq, not, length, map, IfOk};
+ghost use Rattle.std.specs.List.{filter};
 ghost use Rattle.std.specs.List.Sorted.{IsStrictlySortedBy};
 ghost use Rattle.std.specs.Ordering.{nat_cmp};
-ghost use Rattle.std.specs.BTreeMap.{is_at};
-ghost use Rattle.std.specs.Map.{lookup, keys_of};
-ghost use Rattle.colour_meaning.specs.Interference.{Graph as GraphOf, has, neighbours_of, IsInterference};
+ghost use Rattle.std.specs.Map.{keys_of};
+ghost use Rattle.colour_meaning.specs.Interference.{neighbours_of, IsInterference};
 ghost use Rattle.pred_colour.specs.Entities.{preds_of};
+ghost use Rattle.pred_colour.specs.GraphRows.{pred_at, row_at, others, graph_of, AreBelow, AreRows};
 ghost use Rattle.pred_colour.specs.Turns.{turn_of};
 
-use crate::neighbours::Neighbours;
+use crate::places::place_of;
+use crate::predicates::predicates;
+use crate::rows::joined;
 use crate::turns::Turn;
+use bit_sets::BitSet;
 use std::alloc::{AllocError, Global};
-use std::collections::BTreeMap;
 use std::marker::Model;
 
 /// The distinct predicates of one entity.
@@ -26,30 +28,28 @@ pub struct EntityPreds {
 /// its neighbours.
 #[derive(Drop)]
 pub struct Graph {
-    neighbours: BTreeMap<u32, Neighbours>,
+    /// The predicates, rising.
+    preds: Vec<u32>,
+    /// For each of them the places of those that it occurs with, and maybe its own.
+    rows: Vec<BitSet>,
 }
 
 impl Model for Graph {
     ghost use Rattle.colour_meaning.specs.Interference.{Graph as GraphOf};
-    ghost use Rattle.std.specs.List.Sorted.{IsStrictlySortedBy};
-    ghost use Rattle.std.specs.Ordering.{nat_cmp};
-    ghost use Rattle.std.specs.Map.{keys_of};
+    ghost use Rattle.pred_colour.specs.GraphRows.{graph_of, AreRows};
 
     ghost Value = { GraphOf };
 
-    ghost view = { λ g. g.neighbours.entries };
+    ghost view = { λ g. graph_of g.preds.items g.rows.items };
 
-    ghost invariant = { λ g. IsStrictlySortedBy nat_cmp (keys_of g.neighbours.entries) };
+    ghost invariant = { λ g. AreRows g.preds.items g.rows.items };
 }
 
 impl Graph {
-    pub(crate) fn neighbours(&self, pred: u32) -> &[u32]
-        ensures { result.now ≡ neighbours_of self.now pred }
+    pub(crate) fn neighbours(&self, alloc: Global, pred: u32) -> Result<Vec<u32>, AllocError>
+        ensures { IfOk result (λ list. list.items ≡ neighbours_of self.now pred) }
     {
-        match self.neighbours.get(&pred) {
-            Some(neighbours) => neighbours.as_slice(),
-            None => &[],
-        }
+        neighbours(alloc, self.preds.as_slice(), self.rows.as_slice(), pred)
     }
 
     /// The predicates with their numbers of neighbours, by rising id.
@@ -57,14 +57,7 @@ impl Graph {
         ensures turns { IfOk result (λ turns. turns.items ≡ map turn_of self.now) }
         ensures rising { IsStrictlySortedBy nat_cmp (keys_of self.now) }
     {
-        let mut turns = Vec::new(alloc);
-        for (pred, neighbours) in &self.neighbours {
-            turns.push(Turn {
-                pred: *pred,
-                degree: neighbours.as_slice().len(),
-            })?;
-        }
-        Ok(turns)
+        turns(alloc, self.preds.as_slice(), self.rows.as_slice())
     }
 }
 
@@ -72,56 +65,67 @@ impl Graph {
 pub fn interference(alloc: Global, entities: &[EntityPreds]) -> Result<Graph, AllocError>
     ensures { IfOk result (λ graph. IsInterference (map preds_of entities.now) graph) }
 {
-    let neighbours = joined(alloc, entities)?;
-    Ok(Graph { neighbours })
+    let preds = predicates(alloc, entities)?;
+    let rows = joined(alloc, preds.as_slice(), entities)?;
+    Ok(Graph { preds, rows })
 }
 
-fn joined(alloc: Global, entities: &[EntityPreds]) -> Result<BTreeMap<u32, Neighbours>, AllocError>
-    ensures { IfOk result (λ graph. IsInterference (map preds_of entities.now) graph.entries) }
-{
-    let mut graph = BTreeMap::new(alloc);
-    for entity in entities {
-        join_all(&mut graph, alloc, entity.preds.as_slice())?;
-    }
-    // That the predicates rise is told by a call.
-    let _count = graph.len();
-    Ok(graph)
-}
-
-/// Joins the predicates of one entity.
-fn join_all(
-    graph: &mut BTreeMap<u32, Neighbours>,
+fn neighbours(
     alloc: Global,
     preds: &[u32],
-) -> Result<(), AllocError>
-    ensures preds { OnOk result ((p : ℕ) → is_some (lookup (is_at (nat_cmp p)) graph.new.entries) ≡ (is_some (lookup (is_at (nat_cmp p)) graph.old.entries) || has p preds.now)) }
-    ensures joined { OnOk result ((p q : ℕ) → has q (neighbours_of graph.new.entries p) ≡ (has q (neighbours_of graph.old.entries p) || (has p preds.now && (not (nat_eq q p) && has q preds.now)))) }
-    ensures once { OnOk result (((p : ℕ) → IsDistinct nat_eq (neighbours_of graph.old.entries p)) → (p : ℕ) → IsDistinct nat_eq (neighbours_of graph.new.entries p)) }
-{
-    for pred in preds {
-        join(graph, alloc, *pred, preds)?;
-    }
-    Ok(())
-}
-
-/// Joins a predicate with the others.
-fn join(
-    graph: &mut BTreeMap<u32, Neighbours>,
-    alloc: Global,
+    rows: &[BitSet],
     pred: u32,
-    preds: &[u32],
-) -> Result<(), AllocError>
-    ensures preds { OnOk result ((p : ℕ) → is_some (lookup (is_at (nat_cmp p)) graph.new.entries) ≡ (is_some (lookup (is_at (nat_cmp p)) graph.old.entries) || nat_eq p pred)) }
-    ensures joined { OnOk result ((p q : ℕ) → has q (neighbours_of graph.new.entries p) ≡ (has q (neighbours_of graph.old.entries p) || (nat_eq p pred && (not (nat_eq q p) && has q preds.now)))) }
-    ensures once { OnOk result (((p : ℕ) → IsDistinct nat_eq (neighbours_of graph.old.entries p)) → (p : ℕ) → IsDistinct nat_eq (neighbours_of graph.new.entries p)) }
+) -> Result<Vec<u32>, AllocError>
+    requires { AreRows preds.now rows.now }
+    ensures { IfOk result (λ list. list.items ≡ neighbours_of (graph_of preds.now rows.now) pred) }
 {
-    if let Some(neighbours) = graph.get_mut(&pred) {
-        return neighbours.note_others(preds, pred);
+    match place_of(preds, pred) {
+        Some(place) => neighbours_at(alloc, preds, rows, place),
+        None => Ok(Vec::new(alloc)),
     }
-    let mut neighbours = Neighbours::new(alloc);
-    neighbours.note_others(preds, pred)?;
-    let Ok(_old) = graph.insert(pred, neighbours) else {
-        return Err(AllocError);
-    };
-    Ok(())
+}
+
+fn turns(alloc: Global, preds: &[u32], rows: &[BitSet]) -> Result<Vec<Turn>, AllocError>
+    requires { AreRows preds.now rows.now }
+    ensures { IfOk result (λ turns. turns.items ≡ map turn_of (graph_of preds.now rows.now)) }
+{
+    let mut turns = Vec::new(alloc);
+    for place in 0..preds.len() {
+        let neighbours = neighbours_at(alloc, preds, rows, place)?;
+        turns.push(Turn {
+            pred: preds[place],
+            degree: neighbours.len(),
+        })?;
+    }
+    Ok(turns)
+}
+
+/// The neighbours of the predicate at a place.
+fn neighbours_at(
+    alloc: Global,
+    preds: &[u32],
+    rows: &[BitSet],
+    place: usize,
+) -> Result<Vec<u32>, AllocError>
+    requires rows { AreRows preds.now rows.now }
+    requires within { place < length preds.now }
+    ensures { IfOk result (λ list. list.items ≡ others preds.now (row_at rows.now place) (pred_at preds.now place)) }
+{
+    let places = rows[place].numbers(alloc)?;
+    preds_but(alloc, preds, places.as_slice(), preds[place])
+}
+
+/// The predicates at these places but one.
+fn preds_but(alloc: Global, preds: &[u32], places: &[u32], but: u32) -> Result<Vec<u32>, AllocError>
+    requires { AreBelow (length preds.now) places.now }
+    ensures { IfOk result (λ list. list.items ≡ filter (λ q. not (nat_eq q but)) (map (pred_at preds.now) places.now)) }
+{
+    let mut list = Vec::new(alloc);
+    for place in places {
+        let pred = preds[*place as usize];
+        if pred != but {
+            list.push(pred)?;
+        }
+    }
+    Ok(list)
 }

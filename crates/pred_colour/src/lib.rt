@@ -4,7 +4,9 @@
 mod colouring;
 mod colours;
 mod graph;
-mod neighbours;
+mod places;
+mod predicates;
+mod rows;
 mod turns;
 
 pub use colouring::colour;

@@ -9,10 +9,10 @@ give-requires-clause-new c =
 
 pub returns-in_ok-give-in-Some : goal.returns-in_ok-give-in-Some
 returns-in_ok-give-in-Some c =
-    a_turn c.args.graph.now c.args.k c.args.order.now c.args.at (get_or c.args.order.now c.args.at 0) c.in-Some.column c.args.colours.now c.give.new.self c.free_column.result c.requires.within
-    (at_place c.args.order.now c.args.at c.requires.within) c.requires.strict c.requires.before c.free_column.ensures c.in-Some.is c.in_ok-give-in-Some.ensures
+    a_turn c.args.graph.now c.args.k c.args.order.now c.args.at (get_or c.args.order.now c.args.at 0) c.in-Some.column c.args.colours.now c.give.new.self c.in_ok-free.free c.requires.within
+    (at_place c.args.order.now c.args.at c.requires.within) c.requires.strict c.requires.before c.in_ok-free.ensures c.in-Some.is c.in_ok-give-in-Some.ensures
 
 pub returns-in-None : goal.returns-in-None
 returns-in-None c =
-    no_turn c.args.graph.now c.args.k c.args.order.now c.args.at (get_or c.args.order.now c.args.at 0) c.args.colours.now c.free_column.result c.requires.within
-    (at_place c.args.order.now c.args.at c.requires.within) c.requires.strict c.requires.before c.free_column.ensures c.in-None.is
+    no_turn c.args.graph.now c.args.k c.args.order.now c.args.at (get_or c.args.order.now c.args.at 0) c.args.colours.now c.in_ok-free.free c.requires.within
+    (at_place c.args.order.now c.args.at c.requires.within) c.requires.strict c.requires.before c.in_ok-free.ensures c.in-None.is

@@ -1,0 +1,4 @@
+pub mod Lowest
+pub mod Members
+pub mod Rising
+pub mod Searched

@@ -1,0 +1,7 @@
+//! Sets of numbers as words of 64 bits.
+#![tactic(auto)]
+
+mod bit_set;
+mod words;
+
+pub use bit_set::BitSet;

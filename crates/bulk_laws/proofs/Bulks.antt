@@ -14,7 +14,7 @@ use Rattle.layout_meaning.specs.Rows.{SideOf, KeepsToNames, name_in, columns_by}
 use Rattle.standing_meaning.specs.Dictionary.{names_of, entries_of}
 use Rattle.standing_meaning.specs.Schemas.{LayoutOf}
 use Rattle.standing_meaning.specs.Sides.{turned, AreOnce, IsGoodSide}
-use Rattle.standing_meaning.specs.Stored.{StoreOf, IsStore, IsItem, triple_by}
+use Rattle.standing_meaning.specs.Stored.{StoreOf, IsStore, IsItem, triple_by, text_of_id}
 use Rattle.standing_meaning.proofs.Steps.{items-once, each-bag_item}
 use Rattle.standing_meaning.proofs.Terms.{term_at-name}
 use Rattle.list_order.specs.InOrder.{AreRising}
@@ -23,7 +23,7 @@ use Rattle.bulk_meaning.specs.Appended.{lists_in_rows, given_entity, given_entit
 use Rattle.bulk_meaning.specs.Bulk.{by_entity, empty_side, placed_all, bulk_side}
 use Rattle.bulk_meaning.proofs.Turns.{turn-same}
 use Rattle.bulk_meaning.proofs.Sides.{sound-appended, items-appended, keeps-appended}
-use Rattle.bulk_laws.specs.BulkStore.{text_of_id, bulk_sides, HaveCandidates}
+use Rattle.bulk_laws.specs.BulkStore.{bulk_sides, HaveCandidates}
 use Rattle.bulk_laws.specs.BulkLaws.{BulksAreStores, BulksHoldTheirItems, BulksAreInOrder}
 use Rattle.bulk_laws.proofs.Placing.{columns-kept, good-all, keeps-all, AreApart, apart-same, bag-all}
 

@@ -6,7 +6,7 @@ use Rattle.layout_meaning.specs.Columns.{ColumnsOf, candidates_of}
 use Rattle.layout_meaning.specs.Side.{Item, first_of}
 use Rattle.standing_meaning.specs.Schemas.{LayoutOf}
 use Rattle.standing_meaning.specs.Sides.{SidesOf, turned}
-use Rattle.standing_meaning.specs.Stored.{StoreOf, term_at}
+use Rattle.standing_meaning.specs.Stored.{StoreOf, text_of_id}
 use Rattle.standing_meaning.specs.Changes.{with_terms, item_in, store_of}
 use Rattle.bulk_meaning.specs.Bulk.{bulk_side}
 
@@ -17,10 +17,6 @@ each_once triples = fold with_triple [] triples
 -- the terms of the triples, each once, in order of first need: subject, predicate, object
 abbrev pub terms_of : List RdfTriple → List RdfTerm
 terms_of triples = fold with_terms [] triples
-
--- the text of the term with this id
-abbrev pub text_of_id : List RdfTerm → ℕ → List ℕ
-text_of_id terms n = (term_at terms n).text
 
 -- each side is the bulk of the items as it has them; the terms give their IRIs to the predicates
 abbrev pub bulk_sides : LayoutOf → List RdfTerm → List Item → SidesOf

@@ -1,11 +1,11 @@
 -- What is chosen of a layout, and the layout for a bulk (this project's own).
-use Rattle.std.specs.Prelude.{ℕ, Bool, List, map}
+use Rattle.std.specs.Prelude.{Bool, List, map}
 use Rattle.rdf_meaning.specs.Terms.{RdfTerm}
 use Rattle.layout_meaning.specs.Columns.{ColumnsOf}
 use Rattle.layout_meaning.specs.Side.{Item}
 use Rattle.standing_meaning.specs.Schemas.{LayoutOf}
 use Rattle.standing_meaning.specs.Sides.{turned}
-use Rattle.standing_meaning.specs.Stored.{term_at}
+use Rattle.standing_meaning.specs.Stored.{text_of_id}
 use Rattle.columns_meaning.specs.BulkColours.{AreColumnsFor}
 
 -- the columns of both sides that are known before a bulk, and whether the bulk's colouring stands in their place
@@ -16,5 +16,5 @@ pub record ChoiceOf : Type 0 where
 
 -- the layout for a bulk whose items have these terms: each side for itself; a predicate's IRI is the text of its term
 pub record IsLayoutFor (choice : ChoiceOf) (terms : List RdfTerm) (items : List Item) (layout : LayoutOf) : Type 0 where
-  pub direct : AreColumnsFor choice.greedy choice.direct (λ (p : ℕ). (term_at terms p).text) items layout.direct
-  pub reverse : AreColumnsFor choice.greedy choice.reverse (λ (p : ℕ). (term_at terms p).text) (map turned items) layout.reverse
+  pub direct : AreColumnsFor choice.greedy choice.direct (text_of_id terms) items layout.direct
+  pub reverse : AreColumnsFor choice.greedy choice.reverse (text_of_id terms) (map turned items) layout.reverse

@@ -18,7 +18,7 @@ use Rattle.layout_meaning.specs.Side.{Item}
 use Rattle.layout_meaning.proofs.Candidates.{candidates, first-below}
 use Rattle.standing_meaning.specs.Schemas.{LayoutOf}
 use Rattle.standing_meaning.specs.Sides.{turned}
-use Rattle.standing_meaning.specs.Stored.{term_at}
+use Rattle.standing_meaning.specs.Stored.{text_of_id}
 use Rattle.bulk_laws.specs.BulkStore.{HaveCandidates}
 use Rattle.colour_meaning.specs.Interference.{Graph, has}
 use Rattle.colour_meaning.specs.Colouring.{rank, column_of, is_taken, IsLeastFree, IsColouring}
@@ -100,8 +100,8 @@ pub record HasCandidates (layout : LayoutOf) : Type 0 where
 
 layout-candidates : (choice : ChoiceOf) (terms : List RdfTerm) (items : List Item) (layout : LayoutOf) → AreFitColumns choice.direct → AreFitColumns choice.reverse → IsLayoutFor choice terms items layout → HasCandidates layout
 layout-candidates choice terms items layout d r h = record {
-  direct = have_candidates layout.direct (columns-fit choice.greedy choice.direct (λ (p : ℕ). (term_at terms p).text) items layout.direct d h.direct);
-  reverse = have_candidates layout.reverse (columns-fit choice.greedy choice.reverse (λ (p : ℕ). (term_at terms p).text) (map turned items) layout.reverse r h.reverse);
+  direct = have_candidates layout.direct (columns-fit choice.greedy choice.direct (text_of_id terms) items layout.direct d h.direct);
+  reverse = have_candidates layout.reverse (columns-fit choice.greedy choice.reverse (text_of_id terms) (map turned items) layout.reverse r h.reverse);
 }
 
 -- ---- what options choose fits

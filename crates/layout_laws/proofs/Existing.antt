@@ -17,7 +17,7 @@ use Rattle.layout_meaning.specs.Columns.{ColumnsOf}
 use Rattle.layout_meaning.specs.Side.{Item}
 use Rattle.standing_meaning.specs.Schemas.{LayoutOf}
 use Rattle.standing_meaning.specs.Sides.{turned}
-use Rattle.standing_meaning.specs.Stored.{term_at}
+use Rattle.standing_meaning.specs.Stored.{text_of_id}
 use Rattle.bulk_laws.specs.BulkStore.{terms_of, bulk_items}
 use Rattle.colour_meaning.specs.Interference.{Graph, IsInterference, has, interfere, neighbours_of}
 use Rattle.colour_meaning.proofs.Steps.{is_at-same, same_number}
@@ -141,7 +141,7 @@ some_columns greedy chosen iri_of items =
 
 pub some_layout : (choice : ChoiceOf) (terms : List RdfTerm) (items : List Item) → (layout : LayoutOf) × IsLayoutFor choice terms items layout
 some_layout choice terms items =
-    let iri_of : ℕ → List ℕ = λ (p : ℕ). (term_at terms p).text in
+    let iri_of : ℕ → List ℕ = text_of_id terms in
     let d = some_columns choice.greedy choice.direct iri_of items in
     let r = some_columns choice.greedy choice.reverse iri_of (map turned items) in
     (record { direct = d.0; reverse = r.0 }, record { direct = d.1; reverse = r.1 })

@@ -9,7 +9,7 @@ use Rattle.layout_meaning.specs.Columns.{ColumnsOf}
 use Rattle.layout_meaning.specs.Side.{Item}
 use Rattle.standing_meaning.specs.Schemas.{LayoutOf}
 use Rattle.standing_meaning.specs.Sides.{turned}
-use Rattle.standing_meaning.specs.Stored.{term_at}
+use Rattle.standing_meaning.specs.Stored.{text_of_id}
 use Rattle.bulk_laws.specs.BulkStore.{terms_of, bulk_items}
 use Rattle.columns_meaning.specs.BulkColours.{AreKnown, AreBulkColours, AreColumnsFor, entities_of}
 use Rattle.columns_meaning.specs.Layouts.{ChoiceOf, IsLayoutFor}
@@ -35,7 +35,7 @@ columns greedy chosen iri_of items a b x y =
 
 pub one_layout : (choice : ChoiceOf) (terms : List RdfTerm) (items : List Item) (a b : LayoutOf) → IsLayoutFor choice terms items a → IsLayoutFor choice terms items b → a ≡ b
 one_layout choice terms items a b x y =
-    let iri_of : ℕ → List ℕ = λ (p : ℕ). (term_at terms p).text in
+    let iri_of : ℕ → List ℕ = text_of_id terms in
     let d = columns choice.greedy choice.direct iri_of items a.direct b.direct x.direct y.direct in
     let r = columns choice.greedy choice.reverse iri_of (map turned items) a.reverse b.reverse x.reverse y.reverse in
     λ i. record { direct = d i; reverse = r i }

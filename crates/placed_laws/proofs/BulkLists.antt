@@ -16,6 +16,7 @@ use Rattle.layout_meaning.specs.Side.{Pair, Item, Row, Rows, SideState, rows_of,
 use Rattle.layout_meaning.specs.Sound.{over}
 use Rattle.layout_meaning.proofs.RowSums.{free_row-total}
 use Rattle.layout_meaning.proofs.Sums.{over-with_rows, written-total}
+use Rattle.standing_meaning.specs.Stored.{text_of_id}
 use Rattle.standing_meaning.specs.Changes.{item_in}
 use Rattle.standing_meaning.specs.Schemas.{LayoutOf}
 use Rattle.standing_meaning.specs.Sides.{turned}
@@ -23,7 +24,7 @@ use Rattle.bulk_meaning.specs.Appended.{lists_in, named_lists}
 use Rattle.bulk_meaning.specs.Bulk.{by_entity, empty_side, placed_all, bulk_side}
 use Rattle.bulk_meaning.proofs.MoreLists.{next-all}
 use Rattle.bulk_meaning.proofs.Sides.{count-lists}
-use Rattle.bulk_laws.specs.BulkStore.{each_once, terms_of, text_of_id, bulk_items, bulk_store}
+use Rattle.bulk_laws.specs.BulkStore.{each_once, terms_of, bulk_items, bulk_store}
 
 -- how many lists the pairs of a side name
 abbrev lists_on : SideState → ℕ

@@ -4,9 +4,9 @@ ghost use Rattle.std.specs.Prelude.{◌≡◌, ◌≤◌, ℕ, List, length, map
 ghost use Rattle.std.specs.List.{AllByRecursion};
 ghost use Rattle.bags.specs.Sort.{sort};
 ghost use Rattle.layout_meaning.specs.Rows.{placed_in};
-ghost use Rattle.standing_meaning.specs.Stored.{IsIdIn};
+ghost use Rattle.standing_meaning.specs.Stored.{IsIdIn, text_of_id};
 ghost use Rattle.bulk_meaning.specs.Bulk.{by_entity, placed_all, bulk_side};
-ghost use Rattle.shredder.specs.Items.{item_of, iri_in, placed_order};
+ghost use Rattle.shredder.specs.Items.{item_of, placed_order};
 
 use pred_columns::Columns;
 use primary_rows::Side;
@@ -42,7 +42,7 @@ fn sorted(alloc: Global, placed: &[Placed]) -> Result<Vec<Placed>, AllocError>
 fn place(side: &mut Side, alloc: Global, placed: Placed, iris: &TermBook) -> Result<(), AllocError>
     requires low { 1 ≤ placed.pred }
     requires high { placed.pred ≤ length iris.now }
-    ensures { OnOk result (side.new ≡ placed_in side.old (iri_in iris.now placed.pred) (item_of placed)) }
+    ensures { OnOk result (side.new ≡ placed_in side.old (text_of_id iris.now placed.pred) (item_of placed)) }
 {
     let iri = &iris.term(TermId::new(placed.pred)).text;
     match side.insert(alloc, placed.entity, placed.pred, iri, placed.value) {
@@ -59,7 +59,7 @@ fn place_all(
     iris: &TermBook,
 ) -> Result<Side, AllocError>
     requires { AllByRecursion (λ x. IsIdIn iris.now x.pred) (map item_of placed.now) }
-    ensures { IfOk result (λ after. after ≡ placed_all (iri_in iris.now) side (map item_of placed.now)) }
+    ensures { IfOk result (λ after. after ≡ placed_all (text_of_id iris.now) side (map item_of placed.now)) }
 {
     let mut side = side;
     for at in 0..placed.len() {
@@ -79,7 +79,7 @@ pub fn shred(
     _pieces: u32,
 ) -> Result<Side, AllocError>
     requires preds { AllByRecursion (λ x. IsIdIn iris.now x.pred) (map item_of placed.now) }
-    ensures { IfOk result (λ side. side ≡ bulk_side columns (iri_in iris.now) (map item_of placed.now)) }
+    ensures { IfOk result (λ side. side ≡ bulk_side columns (text_of_id iris.now) (map item_of placed.now)) }
 {
     let sorted = sorted(alloc, placed)?;
     let later = Side::new(alloc, columns.copy(alloc)?, Lists::starting(alloc, -1));

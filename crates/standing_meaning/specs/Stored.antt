@@ -26,6 +26,10 @@ tables_of s = layout_tables (layout_of s) s.direct.state s.reverse.state s.terms
 abbrev pub term_at : List RdfTerm → ℕ → RdfTerm
 term_at terms n = unwrap_or (slice_get terms (n - 1)) (iri [])
 
+-- the text of the term with this id
+abbrev pub text_of_id : List RdfTerm → ℕ → List ℕ
+text_of_id terms n = (term_at terms n).text
+
 -- the triple of an item of the direct side
 abbrev pub triple_by : List RdfTerm → Item → RdfTriple
 triple_by terms x = record { s = term_at terms x.entity; p = term_at terms x.pred; o = term_at terms x.value }

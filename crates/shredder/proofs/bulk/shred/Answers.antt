@@ -2,9 +2,9 @@ use Rattle.std.proofs.Common.{◌∙◌, sym, ap, subst, map, List}
 use Rattle.std.specs.List.{AllByRecursion}
 use Rattle.layout_meaning.specs.Side.{Item}
 use Rattle.layout_meaning.specs.Rows.{SideOf}
-use Rattle.standing_meaning.specs.Stored.{IsIdIn}
+use Rattle.standing_meaning.specs.Stored.{IsIdIn, text_of_id}
 use Rattle.shredder.specs.declared.bulk.Placed.{Placed}
-use Rattle.shredder.specs.Items.{item_of, iri_in}
+use Rattle.shredder.specs.Items.{item_of}
 use Rattle.shredder.proofs.Runs.{sorted-each, columns-kept}
 use Rattle.shredder.proofs.bulk.shred.Goals as goal
 
@@ -16,7 +16,7 @@ place_all-requires c =
 pub append-requires-clause-same : goal.append-requires-clause-same
 append-requires-clause-same c =
     ap (λ (s : SideOf). s.columns) c.in_ok-later.ensures
-    ∙ columns-kept (iri_in c.args.iris.now) c.new-later.result (map item_of c.as_slice.result.now)
+    ∙ columns-kept (text_of_id c.args.iris.now) c.new-later.result (map item_of c.as_slice.result.now)
     ∙ ap (λ (s : SideOf). s.columns) c.new-later.ensures.side
     ∙ c.in_ok-copy.ensures
     ∙ sym (ap (λ (s : SideOf). s.columns) c.new.ensures.side)

@@ -8,13 +8,12 @@ use Rattle.layout_meaning.specs.Side.{Item}
 use Rattle.colour_meaning.specs.Interference.{Graph, has, IsInterference}
 use Rattle.colour_meaning.specs.Colouring.{IsColouring}
 use Rattle.colour_meaning.proofs.Steps.{same_number}
-use Rattle.standing_meaning.specs.Stored.{IsIdIn}
+use Rattle.standing_meaning.specs.Stored.{IsIdIn, text_of_id}
 use Rattle.pred_colour.specs.declared.colours.Coloured.{Coloured}
 use Rattle.pred_colour.specs.Given.{pair_of}
 use Rattle.pred_colour.proofs.Joins.{any-map}
 use Rattle.pred_columns.specs.declared.columns.ColourPair.{ColourPair}
 use Rattle.pred_columns.specs.Refusal.{known_of}
-use Rattle.shredder.specs.Items.{iri_in}
 use Rattle.columns_meaning.specs.BulkColours.{preds_under, entities_of}
 use Rattle.bulk_columns.proofs.ByEntity.{under_is, pick}
 use Rattle.bulk_columns.specs.Entities.{is_pair}
@@ -49,9 +48,9 @@ at-id terms (c ∷ cs) (suc i) d l a = at-id terms cs i d (omega arith) a.1
 
 -- a pair more
 pub pairs-more : (terms : List RdfTerm) (colours : List Coloured) (i : ℕ) (d : Coloured) (pairs : List ColourPair) (p : ColourPair) → i < length colours
-    → map known_of pairs ≡ map (λ (c : ℕ × ℕ). (iri_in terms c.0, c.1)) (map pair_of (take i colours))
-    → known_of p ≡ (iri_in terms (get_or colours i d).pred, (get_or colours i d).column)
-    → map known_of (pairs ++ p ∷ []) ≡ map (λ (c : ℕ × ℕ). (iri_in terms c.0, c.1)) (map pair_of (take (i + 1) colours))
+    → map known_of pairs ≡ map (λ (c : ℕ × ℕ). (text_of_id terms c.0, c.1)) (map pair_of (take i colours))
+    → known_of p ≡ (text_of_id terms (get_or colours i d).pred, (get_or colours i d).column)
+    → map known_of (pairs ++ p ∷ []) ≡ map (λ (c : ℕ × ℕ). (text_of_id terms c.0, c.1)) (map pair_of (take (i + 1) colours))
 pairs-more terms colours i d pairs p l h k =
     map_push known_of pairs p
     ∙ (λ j. h j ++ k j ∷ [])
@@ -60,4 +59,4 @@ pairs-more terms colours i d pairs p l h k =
     ∙ map_push name (map pair_of (take i colours)) (pair_of (get_or colours i d)))
   where
     name : ℕ × ℕ → List ℕ × ℕ
-    name c = (iri_in terms c.0, c.1)
+    name c = (text_of_id terms c.0, c.1)

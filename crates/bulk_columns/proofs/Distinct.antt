@@ -1,18 +1,19 @@
 -- Lists of predicates, each kept once.
-use Rattle.std.proofs.Common.{◌≡◌, ◌&&◌, ◌||◌, ◌⊎◌, ℕ, nat_eq, Bool, true, false, List, [], ◌∷◌, ◌++◌, map, refl, sym, ap, ap₂, ◌∙◌, inl, inr}
+use Rattle.std.proofs.Common.{◌≡◌, ◌&&◌, ◌||◌, ◌⊎◌, ℕ, nat_eq, Bool, true, false, if◌then◌else◌, List, [], ◌∷◌, ◌++◌, map, refl, sym, ap, ap₂, ◌∙◌, inl, inr}
 use Rattle.std.proofs.lemmas.Bool.{cases_Bool}
-use Rattle.std.specs.List.{list_any}
+use Rattle.std.specs.List.{list_any, AllByRecursion, IsDistinct}
 use Rattle.std.specs.Prelude.{IsPermutation, vec_items}
 use Rattle.std.specs.Global.{Vec}
+use Rattle.std.proofs.lemmas.List.{map_push}
 use Rattle.std.proofs.lemmas.List.Sorted.{list_any-IsPermutation}
 use Rattle.std.specs.Cmp.Lexicographic.{pointwise}
-use Rattle.bags.specs.Sort.{firsts}
+use Rattle.indexmap.specs.IndexSet.{insert_key}
 use Rattle.colour_meaning.proofs.Steps.{same_number}
 use Rattle.pred_colour.proofs.Joins.{any-map}
 use Rattle.bulk_columns.specs.Entities.{has_both}
 use Rattle.bulk_columns.proofs.ByEntity.{and-parts}
 
--- the first of equal items pass a test where all do
+-- a test that equal items pass alike
 module _ {X : Type 0} (same : X → X → Bool) (t : X → Bool) (alike : (x y : X) → same x y ≡ true → t x ≡ t y) where
   passed-seen : (x : X) (seen : List X) → list_any (same x) seen ≡ true → (t x || list_any t seen) ≡ list_any t seen
   passed-seen x [] h = cc
@@ -31,30 +32,24 @@ module _ {X : Type 0} (same : X → X → Bool) (t : X → Bool) (alike : (x y :
       by true e h ih = ap (λ (b : Bool). b || (t y || list_any t seen)) (alike x y e) ∙ twice (t y) (list_any t seen)
       by false e h ih = turned (t x) (t y) (list_any t seen) (ih h)
 
-  any-firsts-seen : (seen xs : List X) → (list_any t seen || list_any t (firsts same seen xs)) ≡ (list_any t seen || list_any t xs)
-  any-firsts-seen seen [] = refl
-  any-firsts-seen seen (x ∷ xs) = by (cases_Bool (list_any (same x) seen)) (any-firsts-seen seen xs) (any-firsts-seen (x ∷ seen) xs)
+  any-last : (xs : List X) (x : X) → list_any t (xs ++ x ∷ []) ≡ (t x || list_any t xs)
+  any-last [] x = refl
+  any-last (y ∷ xs) x = ap (λ (b : Bool). t y || b) (any-last xs x) ∙ turned (t y) (t x) (list_any t xs)
     where
-      later : (a b c : Bool) → (a || b) ≡ b → (b || c) ≡ (b || (a || c))
-      later true true c h = refl
-      later true false c h = cc
-      later false b c h = refl
+      turned : (a b c : Bool) → (a || (b || c)) ≡ (b || (a || c))
+      turned true true c = refl
+      turned true false c = refl
+      turned false b c = refl
 
-      moved : (a b c : Bool) → (b || (a || c)) ≡ ((a || b) || c)
-      moved true true c = refl
-      moved true false c = refl
-      moved false b c = refl
+  -- some item passes it after an insertion where the new one does or an old one
+  any-insert : (xs : List X) (x : X) → list_any t (insert_key same xs x) ≡ (t x || list_any t xs)
+  any-insert xs x = by (cases_Bool (list_any (same x) xs))
+    where
+      by : (list_any (same x) xs ≡ true) ⊎ (list_any (same x) xs ≡ false) → list_any t (insert_key same xs x) ≡ (t x || list_any t xs)
+      by (inl e) = rw e (sym (passed-seen x xs e))
+      by (inr e) = rw e (any-last xs x)
 
-      by : (list_any (same x) seen ≡ true) ⊎ (list_any (same x) seen ≡ false) → (list_any t seen || list_any t (firsts same seen xs)) ≡ (list_any t seen || list_any t xs)
-          → ((t x || list_any t seen) || list_any t (firsts same (x ∷ seen) xs)) ≡ ((t x || list_any t seen) || list_any t xs)
-          → (list_any t seen || list_any t (firsts same seen (x ∷ xs))) ≡ (list_any t seen || (t x || list_any t xs))
-      by (inl e) here there = rw e (here ∙ later (t x) (list_any t seen) (list_any t xs) (passed-seen x seen e))
-      by (inr e) here there = rw e (moved (t x) (list_any t seen) (list_any t (firsts same (x ∷ seen) xs)) ∙ there ∙ sym (moved (t x) (list_any t seen) (list_any t xs)))
-
-  pub any-firsts : (xs : List X) → list_any t (firsts same [] xs) ≡ list_any t xs
-  any-firsts xs = any-firsts-seen [] xs
-
-pub same_list : (xs ys : List ℕ) → pointwise nat_eq xs ys ≡ true → xs ≡ ys
+same_list : (xs ys : List ℕ) → pointwise nat_eq xs ys ≡ true → xs ≡ ys
 same_list [] [] h = refl
 same_list [] (y ∷ ys) h = cc
 same_list (x ∷ xs) [] h = cc
@@ -63,31 +58,50 @@ same_list (x ∷ xs) (y ∷ ys) h =
     ap₂ (λ (z : ℕ) (zs : List ℕ). z ∷ zs) (same_number x y both.0) (same_list xs ys both.1)
 
 -- a list in another order
-pub both-permuted : (p q : ℕ) (xs ys : List ℕ) → IsPermutation xs ys → has_both p q xs ≡ has_both p q ys
+both-permuted : (p q : ℕ) (xs ys : List ℕ) → IsPermutation xs ys → has_both p q xs ≡ has_both p q ys
 both-permuted p q xs ys same = ap₂ (λ (a b : Bool). a && b) (list_any-IsPermutation (nat_eq p) xs ys same) (list_any-IsPermutation (nat_eq q) xs ys same)
 
 -- one more set
-pub set-more : {V : Type 0} (items_of : V → List ℕ) (p q : ℕ) (sets : List V) (set : V) (preds : List ℕ) (left all : Bool) → IsPermutation preds (items_of set)
-    → (list_any (has_both p q) (map items_of sets) || (has_both p q preds || left)) ≡ all → (list_any (has_both p q) (map items_of (sets ++ set ∷ [])) || left) ≡ all
-set-more items_of p q [] set preds left all same h = ap (λ (b : Bool). (b || false) || left) (sym (both-permuted p q preds (items_of set) same)) ∙ one (has_both p q preds) left ∙ h
+pub set-more : (p q : ℕ) (sets : List (List ℕ)) (set preds : List ℕ) (left all : Bool) → IsPermutation preds set
+    → (list_any (has_both p q) sets || (has_both p q preds || left)) ≡ all → (list_any (has_both p q) (insert_key (pointwise nat_eq) sets set) || left) ≡ all
+set-more p q sets set preds left all same h =
+    ap (λ (b : Bool). b || left) (any-insert (pointwise nat_eq) (has_both p q) (λ x y e. ap (has_both p q) (same_list x y e)) sets set)
+    ∙ turned (has_both p q set) (list_any (has_both p q) sets) left
+    ∙ ap (λ (b : Bool). list_any (has_both p q) sets || (b || left)) (sym (both-permuted p q preds set same))
+    ∙ h
   where
-    one : (a b : Bool) → ((a || false) || b) ≡ (a || b)
-    one true b = refl
-    one false b = refl
-set-more items_of p q (x ∷ sets) set preds left all same h = by (has_both p q (items_of x)) h (set-more items_of p q sets set preds left all same)
-  where
-    by : (b : Bool) → ((b || list_any (has_both p q) (map items_of sets)) || (has_both p q preds || left)) ≡ all
-        → ((list_any (has_both p q) (map items_of sets) || (has_both p q preds || left)) ≡ all → (list_any (has_both p q) (map items_of (sets ++ set ∷ [])) || left) ≡ all)
-        → ((b || list_any (has_both p q) (map items_of (sets ++ set ∷ []))) || left) ≡ all
-    by true h ih = h
-    by false h ih = ih h
+    turned : (a b c : Bool) → ((a || b) || c) ≡ (b || (a || c))
+    turned true true c = refl
+    turned true false c = refl
+    turned false b c = refl
 
--- equal lists kept once
-pub any-kept : (p q : ℕ) (sets : List (Vec ℕ)) → list_any (has_both p q) (map vec_items (firsts (λ x y. pointwise nat_eq x.items y.items) [] sets)) ≡ list_any (has_both p q) (map vec_items sets)
-any-kept p q sets =
-    any-map (has_both p q) vec_items (firsts same [] sets)
-    ∙ any-firsts same (λ (v : Vec ℕ). has_both p q v.items) (λ x y e. ap (has_both p q) (same_list x.items y.items e)) sets
-    ∙ sym (any-map (has_both p q) vec_items sets)
+-- what holds of the lists and of one more
+pub all-insert : {X : Type 0} (P : X → Type 0) (same : X → X → Bool) (xs : List X) (x : X) → AllByRecursion P xs → P x → AllByRecursion P (insert_key same xs x)
+all-insert {X} P same xs x all one = by (list_any (same x) xs)
   where
-    same : Vec ℕ → Vec ℕ → Bool
-    same x y = pointwise nat_eq x.items y.items
+    last : (ys : List X) → AllByRecursion P ys → AllByRecursion P (ys ++ x ∷ [])
+    last [] a = (one, tt)
+    last (y ∷ ys) a = (a.0, last ys a.1)
+
+    by : (b : Bool) → AllByRecursion P (if b then xs else xs ++ x ∷ [])
+    by true = all
+    by false = last xs all
+
+-- vectors that are kept by their items
+pub items-insert : (xs : List (Vec ℕ)) (x : Vec ℕ) → map vec_items (insert_key (λ a b. pointwise nat_eq a.items b.items) xs x) ≡ insert_key (pointwise nat_eq) (map vec_items xs) x.items
+items-insert xs x =
+    by (list_any (λ (y : Vec ℕ). pointwise nat_eq x.items y.items) xs)
+    ∙ ap (λ (b : Bool). if b then map vec_items xs else map vec_items xs ++ x.items ∷ []) (sym (any-map (pointwise nat_eq x.items) vec_items xs))
+  where
+    by : (b : Bool) → map vec_items (if b then xs else xs ++ x ∷ []) ≡ (if b then map vec_items xs else map vec_items xs ++ x.items ∷ [])
+    by true = refl
+    by false = map_push vec_items xs x
+
+pub items-distinct : (xs : List (Vec ℕ)) → IsDistinct (λ a b. pointwise nat_eq a.items b.items) xs → IsDistinct (pointwise nat_eq) (map vec_items xs)
+unfolding IsDistinct
+items-distinct [] h = tt
+items-distinct (x ∷ xs) h = (apart xs h.0, items-distinct xs h.1)
+  where
+    apart : (ys : List (Vec ℕ)) → AllByRecursion (λ (y : Vec ℕ). pointwise nat_eq x.items y.items ≡ false) ys → AllByRecursion (λ (y : List ℕ). pointwise nat_eq x.items y ≡ false) (map vec_items ys)
+    apart [] a = tt
+    apart (y ∷ ys) a = (a.0, apart ys a.1)

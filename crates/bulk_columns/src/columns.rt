@@ -2,9 +2,9 @@
 
 ghost use Rattle.std.specs.Prelude.{◌≡◌, ◌≤◌, map, true, IfOk};
 ghost use Rattle.std.specs.List.{AllByRecursion};
-ghost use Rattle.standing_meaning.specs.Stored.{IsIdIn};
+ghost use Rattle.standing_meaning.specs.Stored.{IsIdIn, text_of_id};
 ghost use Rattle.pred_columns.specs.Refusal.{known_of};
-ghost use Rattle.shredder.specs.Items.{item_of, iri_in};
+ghost use Rattle.shredder.specs.Items.{item_of};
 ghost use Rattle.columns_meaning.specs.BulkColours.{AreBulkColours, AreColumnsFor};
 
 use crate::graph::graph_of;
@@ -25,7 +25,7 @@ fn colour_pairs(
     requires low { 1 ≤ k }
     requires high { k ≤ 32 }
     requires preds { AllByRecursion (λ x. IsIdIn iris.now x.pred) (map item_of placed.now) }
-    ensures { IfOk result (λ pairs. AreBulkColours k (iri_in iris.now) (map item_of placed.now) (map known_of pairs.items)) }
+    ensures { IfOk result (λ pairs. AreBulkColours k (text_of_id iris.now) (map item_of placed.now) (map known_of pairs.items)) }
 {
     let graph = graph_of(alloc, placed)?;
     let colours = colour(alloc, &graph, k)?;
@@ -55,7 +55,7 @@ fn coloured_columns(
 ) -> Result<Columns, AllocError>
     requires preds { AllByRecursion (λ x. IsIdIn iris.now x.pred) (map item_of placed.now) }
     requires hashes { hashes ≡ chosen.now.hashes }
-    ensures { IfOk result (λ columns. AreColumnsFor true chosen.now (iri_in iris.now) (map item_of placed.now) columns) }
+    ensures { IfOk result (λ columns. AreColumnsFor true chosen.now (text_of_id iris.now) (map item_of placed.now) columns) }
 {
     let k = chosen.count();
     let pairs = colour_pairs(alloc, placed, iris, k)?;
@@ -75,7 +75,7 @@ pub fn columns_for(
 ) -> Result<Columns, AllocError>
     requires preds { AllByRecursion (λ x. IsIdIn iris.now x.pred) (map item_of placed.now) }
     requires hashes { hashes ≡ chosen.now.hashes }
-    ensures { IfOk result (λ columns. AreColumnsFor greedy chosen.now (iri_in iris.now) (map item_of placed.now) columns) }
+    ensures { IfOk result (λ columns. AreColumnsFor greedy chosen.now (text_of_id iris.now) (map item_of placed.now) columns) }
 {
     if greedy {
         coloured_columns(alloc, placed, iris, chosen, hashes)

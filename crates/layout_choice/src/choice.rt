@@ -46,8 +46,7 @@ fn colours_bulk(way: &ColourWay) -> bool
 {
     match way {
         ColourWay::Greedy => true,
-        ColourWay::HashOnly => false,
-        ColourWay::Given(_lines) => false,
+        ColourWay::HashOnly | ColourWay::Given(_) => false,
     }
 }
 

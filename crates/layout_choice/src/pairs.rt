@@ -10,17 +10,6 @@ use pred_columns::ColourPair;
 use rdf_terms::SideName;
 use std::alloc::{AllocError, Global};
 
-fn is_on(line: &ColourLine, side: SideName) -> bool
-    ensures { result ≡ same_side side line.now.side }
-{
-    match (side, line.side) {
-        (SideName::Direct, SideName::Direct) => true,
-        (SideName::Direct, SideName::Reverse) => false,
-        (SideName::Reverse, SideName::Direct) => false,
-        (SideName::Reverse, SideName::Reverse) => true,
-    }
-}
-
 /// Puts the pair of a line last, if it is one of the side.
 fn push_pair(
     pairs: &mut Vec<ColourPair>,
@@ -30,7 +19,7 @@ fn push_pair(
 ) -> Result<(), AllocError>
     ensures { OnOk result (pairs.new.items ≡ (if same_side side line.now.side then pairs.old.items ++ pair_of line.now ∷ [] else pairs.old.items)) }
 {
-    if is_on(line, side) {
+    if line.side == side {
         pairs.push(ColourPair {
             iri: line.iri.copy(alloc)?,
             column: line.column,
@@ -62,8 +51,7 @@ pub(crate) fn known_pairs(
     ensures { IfOk result (λ pairs. pairs.items ≡ known_pairs side way.now) }
 {
     match way {
-        ColourWay::HashOnly => Ok(Vec::new(alloc)),
-        ColourWay::Greedy => Ok(Vec::new(alloc)),
+        ColourWay::HashOnly | ColourWay::Greedy => Ok(Vec::new(alloc)),
         ColourWay::Given(lines) => pairs_on(alloc, lines.as_slice(), side),
     }
 }

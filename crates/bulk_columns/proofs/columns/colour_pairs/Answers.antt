@@ -1,10 +1,10 @@
 use Rattle.std.proofs.Common.{◌∙◌, ℕ, List, map, sym, ap, subst}
 use Rattle.std.specs.List.{AllByRecursion}
 use Rattle.std.proofs.lemmas.Result.{IfOk-weaker}
-use Rattle.standing_meaning.specs.Stored.{IsIdIn}
+use Rattle.standing_meaning.specs.Stored.{IsIdIn, text_of_id}
 use Rattle.pred_colour.specs.declared.colours.Coloured.{Coloured}
 use Rattle.pred_colour.specs.Given.{pair_of}
-use Rattle.shredder.specs.Items.{item_of, iri_in}
+use Rattle.shredder.specs.Items.{item_of}
 use Rattle.bulk_columns.proofs.Colours.{colour_ids}
 use Rattle.bulk_columns.proofs.columns.colour_pairs.Goals as goal
 
@@ -21,6 +21,6 @@ returns c =
       colours = map pair_of c.in_ok-colours.colours.items;
       interferes = c.in_ok-graph.ensures;
       coloured = c.in_ok-colours.ensures;
-      named = e ∙ ap (λ (cs : List Coloured). map (λ (x : ℕ × ℕ). (iri_in c.args.iris.now x.0, x.1)) (map pair_of cs)) c.as_slice.ensures.value;
+      named = e ∙ ap (λ (cs : List Coloured). map (λ (x : ℕ × ℕ). (text_of_id c.args.iris.now x.0, x.1)) (map pair_of cs)) c.as_slice.ensures.value;
     })
     c.pairs_of.ensures

@@ -9,7 +9,7 @@ use Rattle.bulk_columns.proofs.graph.graph_of.Goals as goal
 pub returns : goal.returns
 returns c =
     IfOk-weaker c.interference.result _ _
-    (λ g e. items_interfere (map preds_of c.in_ok-list.list.items) c.in_ok-entities.entities.entries g (map item_of c.args.placed.now) c.in_ok-list.ensures c.in_ok-entities.ensures.rising
+    (λ g e. items_interfere (map preds_of c.in_ok-list.list.items) c.in_ok-entities.entities.entries g (map item_of c.args.placed.now) c.in_ok-list.ensures.joined c.in_ok-entities.ensures.rising
     c.in_ok-entities.ensures.preds
     (subst (λ (es : List (List ℕ)). IsInterference es g) (ap (map preds_of) c.as_slice.ensures.value) e))
     c.interference.ensures

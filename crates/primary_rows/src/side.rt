@@ -239,6 +239,13 @@ impl Side {
         self.table.is_spilled(pred)
     }
 
+    /// How many entities have rows.
+    pub fn entities(&self) -> u64
+        ensures { result ≡ length self.now.state.entities }
+    {
+        self.table.entity_count()
+    }
+
     /// How many rows there are.
     pub fn row_count(&self) -> u64
         ensures { result ≡ row_total self.now.state.entities }

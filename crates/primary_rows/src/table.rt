@@ -61,6 +61,13 @@ impl Table {
         }
     }
 
+    /// How many entities there are.
+    pub(crate) fn entity_count(&self) -> u64
+        ensures { result ≡ length self.now }
+    {
+        self.entities.len() as u64
+    }
+
     pub(crate) fn row_count(&self) -> u64
         ensures { result ≡ row_total self.now }
     {

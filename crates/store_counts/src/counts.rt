@@ -5,7 +5,6 @@ ghost use Rattle.standing_meaning.specs.Stored.{IsStore, stored_triples};
 ghost use Rattle.standing_meaning.specs.Changes.{store_of};
 ghost use Rattle.counts_meaning.specs.Counts.{count_of, counts_over};
 
-use crate::entities::entity_count;
 use pred_columns::{ConstCount, Counts};
 use rdf_terms::Term;
 use std::alloc::{AllocError, Global};
@@ -59,13 +58,11 @@ pub fn counts_of(
     requires { IsStore (store_of book.now sides.now) }
     ensures { IfOk result (λ counts. counts ≡ counts_over (stored_triples (store_of book.now sides.now)) terms.now) }
 {
-    let subjects = entity_count(alloc, sides.direct())?;
-    let objects = entity_count(alloc, sides.reverse())?;
     let constants = counts_of_each(alloc, book, sides, terms)?;
     Ok(Counts {
         triples: sides.count(),
-        subjects,
-        objects,
+        subjects: sides.direct().entities(),
+        objects: sides.reverse().entities(),
         constants,
     })
 }

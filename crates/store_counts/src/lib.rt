@@ -2,7 +2,6 @@
 #![tactic(auto)]
 
 mod counts;
-mod entities;
 mod laws;
 
 pub use counts::counts_of;

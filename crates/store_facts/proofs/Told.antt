@@ -1,5 +1,5 @@
 -- What a dictionary tells of a term, and what a store tells of its tables.
-use Rattle.std.proofs.Common.{◌≡◌, ◌&&◌, ◌||◌, ◌<◌, ◌+◌, ◌-◌, ℕ, Bool, true, false, if◌then◌else◌, cond, List, [], ◌∷◌, ◌++◌, Option, fold, map, take, get_or, length, Contains, refl, sym, ap, ◌∙◌, subst, arith}
+use Rattle.std.proofs.Common.{◌≡◌, ◌&&◌, ◌||◌, ◌<◌, ◌+◌, ◌-◌, ℕ, Bool, true, false, if◌then◌else◌, cond, List, [], ◌∷◌, ◌++◌, Option, Some, None, fold, map, take, get_or, length, Contains, refl, sym, ap, ◌∙◌, subst, arith}
 use Rattle.std.specs.Prelude.{unwrap_or}
 use Rattle.std.specs.List.{filter, IsDistinct}
 use Rattle.std.proofs.lemmas.List.{take_more, map_push}
@@ -53,13 +53,24 @@ none-id n (x ∷ xs) t h = by (same_term x t) h (none-id (n + 1) xs t)
 pub id-none : (terms : List RdfTerm) (t : RdfTerm) → (¬ Contains terms t) → 0 ≡ id_of (entries_of terms) t
 id-none terms t n = sym (none-id 1 terms t (lacks-it terms t n))
 
-pub spilled-some : (terms : List RdfTerm) (t : RdfTerm) (n : ℕ) (s : SideState) → IsDistinct same_term terms → HasId terms t n → is_spilled n s.entities ≡ is_spilled_term (entries_of terms) (side_contents s) t
+spilled-some : (terms : List RdfTerm) (t : RdfTerm) (n : ℕ) (s : SideState) → IsDistinct same_term terms → HasId terms t n → is_spilled n s.entities ≡ is_spilled_term (entries_of terms) (side_contents s) t
 spilled-some terms t n s d h =
     spilled-same n s.entities ∙ ap (λ (m : ℕ). is_spilled_in m (numbered_rows s.entities)) (id-is terms t n d h)
     ∙ ap (λ (b : Bool). b && is_spilled_in (id_of (entries_of terms) t) (numbered_rows s.entities)) (sym (has-it terms t n h))
 
-pub spilled-none : (terms : List RdfTerm) (t : RdfTerm) (s : SideState) → (¬ Contains terms t) → false ≡ is_spilled_term (entries_of terms) (side_contents s) t
+spilled-none : (terms : List RdfTerm) (t : RdfTerm) (s : SideState) → (¬ Contains terms t) → false ≡ is_spilled_term (entries_of terms) (side_contents s) t
 spilled-none terms t s n = ap (λ (b : Bool). b && is_spilled_in (id_of (entries_of terms) t) (numbered_rows s.entities)) (sym (lacks-it terms t n))
+
+-- the id that is told where a predicate is spilled
+pub spilled-id : (terms : List RdfTerm) (t : RdfTerm) (n m : ℕ) (s : SideState) (b : Bool) → IsDistinct same_term terms → HasId terms t n → m ≡ n → b ≡ is_spilled m s.entities
+    → ◌≡◌ {A = Option ℕ} (if b then Some m else None) (if is_spilled_term (entries_of terms) (side_contents s) t then Some (id_of (entries_of terms) t) else None)
+spilled-id terms t n m s b d h e f =
+    let k : b ≡ is_spilled_term (entries_of terms) (side_contents s) t = f ∙ ap (λ (x : ℕ). is_spilled x s.entities) e ∙ spilled-some terms t n s d h in
+    let l : m ≡ id_of (entries_of terms) t = e ∙ id-is terms t n d h in
+    λ i. if k i then Some (l i) else None
+
+pub spilled-no_id : (terms : List RdfTerm) (t : RdfTerm) (s : SideState) → (¬ Contains terms t) → ◌≡◌ {A = Option ℕ} None (if is_spilled_term (entries_of terms) (side_contents s) t then Some (id_of (entries_of terms) t) else None)
+spilled-no_id terms t s n = ap (λ (b : Bool). if b then Some (id_of (entries_of terms) t) else None) (spilled-none terms t s n)
 
 -- one predicate more
 filter-push : (p : RdfTerm → Bool) (xs : List RdfTerm) (x : RdfTerm) → filter p (xs ++ x ∷ []) ≡ (if p x then filter p xs ++ x ∷ [] else filter p xs)

@@ -1,5 +1,5 @@
--- Triples that are loaded one after another.
-use Rattle.std.proofs.Common.{◌≡◌, ◌≢◌, ◌⊎◌, inl, inr, ℕ, ◌+◌, ◌≤◌, ◌<◌, ◌^◌, nat_le, nat_lt, Bool, true, false, if◌then◌else◌, List, [], ◌∷◌, ◌++◌, fold, Option, Some, None, length, take, drop, get_or, refl, sym, ap, ◌∙◌, arith, subst}
+-- Triples that are put in one after another.
+use Rattle.std.proofs.Common.{◌≡◌, ◌≢◌, ◌⊎◌, inl, inr, ℕ, ◌+◌, ◌≤◌, ◌<◌, ◌^◌, nat_le, nat_lt, Bool, true, false, if◌then◌else◌, List, [], ◌∷◌, ◌++◌, Option, Some, None, length, take, drop, get_or, refl, sym, ap, ◌∙◌, arith, subst}
 use Rattle.std.specs.List.{list_any, IsDistinct}
 use Rattle.std.proofs.lemmas.List.Sums.{fold-append}
 use Rattle.std.proofs.lemmas.List.{take_more, drop_more}
@@ -10,12 +10,12 @@ use Rattle.line_meaning.specs.Present.{with_triple}
 use Rattle.layout_meaning.specs.Columns.{candidates_of}
 use Rattle.layout_meaning.proofs.Changes.{next-placed}
 use Rattle.value_lists.specs.declared.lists.Put.{Put}
-use Rattle.value_lists.specs.declared.lists.Put.TheVariants.{Added, There}
+use Rattle.value_lists.specs.declared.lists.Put.TheVariants.{Added}
 use Rattle.value_lists.specs.Answers.{put_of}
 use Rattle.standing_meaning.specs.Dictionary.{IsTriple}
 use Rattle.standing_meaning.specs.Schemas.{LayoutOf}
 use Rattle.standing_meaning.specs.Sides.{AreSides, turned}
-use Rattle.standing_meaning.specs.Stored.{StoreOf, IsStore, sides_of, layout_of, stored_triples}
+use Rattle.standing_meaning.specs.Stored.{StoreOf, sides_of, stored_triples}
 use Rattle.standing_meaning.specs.Changes.{with_terms, item_in, is_stored, stored_in}
 use Rattle.standing_meaning.proofs.Changed.{store-in, triples-in}
 use Rattle.store_laws.proofs.Same.{stored-fits, there-unchanged}
@@ -24,12 +24,12 @@ use Rattle.rdf_layout.specs.declared.refusal.StoreRefusal.{StoreRefusal}
 use Rattle.rdf_layout.specs.declared.refusal.StoreRefusal.TheVariants.{Triples, Terms, Lists, NoMemory}
 use Rattle.rdf_layout.specs.Refused.{Refuses, HasRoom}
 use Rattle.bulk_laws.specs.BulkStore.{each_once, terms_of}
-use Rattle.rdf_layout.specs.Bulk.{empty_sides, empty_store, loaded, refusal_behind, or_later, refusal_from, IsLoaded}
+use Rattle.rdf_layout.specs.Bulk.{empty_sides, empty_store, put_in_turn, refusal_behind, or_later, refusal_from, ArePutInTurn}
 
 -- no triples
-pub loaded-none : (layout : LayoutOf) → AreSides (empty_sides layout) → IsLoaded (empty_store layout) [] (empty_store layout)
+pub put-none : (layout : LayoutOf) → AreSides (empty_sides layout) → ArePutInTurn (empty_store layout) [] (empty_store layout)
 unfolding IsDistinct
-loaded-none layout sides = record {
+put-none layout sides = record {
   store = record {
     sides = sides;
     direct_names = record { rows = tt };
@@ -55,20 +55,20 @@ once-more seen t = fold-append with_triple [] seen (t ∷ [])
 terms-more : (seen : List RdfTriple) (t : RdfTriple) → terms_of (seen ++ t ∷ []) ≡ with_terms (terms_of seen) t
 terms-more seen t = fold-append with_terms [] seen (t ∷ [])
 
-loaded-more : (start : StoreOf) (seen : List RdfTriple) (t : RdfTriple) → loaded start (seen ++ t ∷ []) ≡ stored_in (loaded start seen) t
-loaded-more start seen t = fold-append stored_in start seen (t ∷ [])
+put-more : (start : StoreOf) (seen : List RdfTriple) (t : RdfTriple) → put_in_turn start (seen ++ t ∷ []) ≡ stored_in (put_in_turn start seen) t
+put-more start seen t = fold-append stored_in start seen (t ∷ [])
 
-pub seen-same : (start s : StoreOf) (seen : List RdfTriple) (t : RdfTriple) → IsLoaded start seen s → list_any (same_triple t) (each_once seen) ≡ is_stored s t
+pub seen-same : (start s : StoreOf) (seen : List RdfTriple) (t : RdfTriple) → ArePutInTurn start seen s → list_any (same_triple t) (each_once seen) ≡ is_stored s t
 seen-same start s seen t h = sym (same-any (same_triple t) (stored_triples s) (each_once seen) h.triples)
 
 -- a triple that is stored
-there-refuses_none : (start s : StoreOf) (seen : List RdfTriple) (t : RdfTriple) → IsLoaded start seen s → is_stored s t ≡ true → refusal_behind seen t ≡ None
+there-refuses_none : (start s : StoreOf) (seen : List RdfTriple) (t : RdfTriple) → ArePutInTurn start seen s → is_stored s t ≡ true → refusal_behind seen t ≡ None
 there-refuses_none start s seen t h there = let a : list_any (same_triple t) (each_once seen) ≡ true = seen-same start s seen t h ∙ there in rw a refl
 
-loaded-there : (start s : StoreOf) (seen : List RdfTriple) (t : RdfTriple) → IsLoaded start seen s → IsTriple t → is_stored s t ≡ true → IsLoaded start (seen ++ t ∷ []) (stored_in s t)
-loaded-there start s seen t h form there = subst (λ (w : StoreOf). IsLoaded start (seen ++ t ∷ []) w) (sym same) (record {
+put-there : (start s : StoreOf) (seen : List RdfTriple) (t : RdfTriple) → ArePutInTurn start seen s → IsTriple t → is_stored s t ≡ true → ArePutInTurn start (seen ++ t ∷ []) (stored_in s t)
+put-there start s seen t h form there = subst (λ (w : StoreOf). ArePutInTurn start (seen ++ t ∷ []) w) (sym same) (record {
   store = h.store;
-  placed = sym same ∙ ap (λ (w : StoreOf). stored_in w t) h.placed ∙ sym (loaded-more start seen t);
+  placed = sym same ∙ ap (λ (w : StoreOf). stored_in w t) h.placed ∙ sym (put-more start seen t);
   triples = subst (λ (l : List RdfTriple). SameBag (stored_triples s) l) (sym once) h.triples;
   terms = sym (stored-fits s t h.store there) ∙ ap (λ (l : List RdfTerm). with_terms l t) h.terms ∙ sym (terms-more seen t);
   few = h.few;
@@ -98,13 +98,13 @@ lt-false m n l = grind arith
 lt-true : (m n : ℕ) → m < n → nat_lt m n ≡ true
 lt-true m n l = grind arith
 
-count-same : (start s : StoreOf) (seen : List RdfTriple) → IsLoaded start seen s → length (stored_triples s) ≡ length (each_once seen)
+count-same : (start s : StoreOf) (seen : List RdfTriple) → ArePutInTurn start seen s → length (stored_triples s) ≡ length (each_once seen)
 count-same start s seen h = same-length (stored_triples s) (each_once seen) h.triples
 
-terms-same : (start s : StoreOf) (seen : List RdfTriple) (t : RdfTriple) → IsLoaded start seen s → length (with_terms s.terms t) ≡ length (with_terms (terms_of seen) t)
+terms-same : (start s : StoreOf) (seen : List RdfTriple) (t : RdfTriple) → ArePutInTurn start seen s → length (with_terms s.terms t) ≡ length (with_terms (terms_of seen) t)
 terms-same start s seen t h = ap (λ (l : List RdfTerm). length (with_terms l t)) h.terms
 
-added-refuses_none : (start s : StoreOf) (seen : List RdfTriple) (t : RdfTriple) → IsLoaded start seen s → is_stored s t ≡ false → HasRoom s t → refusal_behind seen t ≡ None
+added-refuses_none : (start s : StoreOf) (seen : List RdfTriple) (t : RdfTriple) → ArePutInTurn start seen s → is_stored s t ≡ false → HasRoom s t → refusal_behind seen t ≡ None
 added-refuses_none start s seen t h new room =
     let a : list_any (same_triple t) (each_once seen) ≡ false = seen-same start s seen t h ∙ new in
     let n = count-same start s seen h in
@@ -115,10 +115,10 @@ added-refuses_none start s seen t h new room =
     let d : nat_lt 4000000 (length (with_terms (terms_of seen) t)) ≡ false = lt-false 4000000 (length (with_terms (terms_of seen) t)) (omega arith) in
     rw (a, b, d) refl
 
-loaded-added : (start s : StoreOf) (seen : List RdfTriple) (t : RdfTriple) → IsLoaded start seen s → IsTriple t → is_stored s t ≡ false → HasRoom s t → IsLoaded start (seen ++ t ∷ []) (stored_in s t)
-loaded-added start s seen t h form new room = record {
+put-added : (start s : StoreOf) (seen : List RdfTriple) (t : RdfTriple) → ArePutInTurn start seen s → IsTriple t → is_stored s t ≡ false → HasRoom s t → ArePutInTurn start (seen ++ t ∷ []) (stored_in s t)
+put-added start s seen t h form new room = record {
   store = store-in s t h.store form;
-  placed = ap (λ (w : StoreOf). stored_in w t) h.placed ∙ sym (loaded-more start seen t);
+  placed = ap (λ (w : StoreOf). stored_in w t) h.placed ∙ sym (put-more start seen t);
   triples = subst (λ (l : List RdfTriple). SameBag (stored_triples (stored_in s t)) l) (sym once)
       (same-trans one (same-trans (same-append (t ∷ []) (t ∷ []) (stored_triples s) (each_once seen) (same-refl (t ∷ [])) h.triples) (same-append_comm (t ∷ []) (each_once seen))));
   terms = ap (λ (l : List RdfTerm). with_terms l t) h.terms ∙ sym (terms-more seen t);
@@ -140,26 +140,26 @@ loaded-added start s seen t h form new room = record {
     once = once-more seen t ∙ ap (λ (b : Bool). if b then each_once seen else each_once seen ++ t ∷ []) (seen-same start s seen t h ∙ new)
 
 -- a triple that was put in
-pub loaded-step : (start s : StoreOf) (seen : List RdfTriple) (t : RdfTriple) (p : Put) → IsLoaded start seen s → IsTriple t → p ≡ put_of (is_stored s t) → (p ≡ Added → HasRoom s t) → IsLoaded start (seen ++ t ∷ []) (stored_in s t)
-loaded-step start s seen t p h form answer room = by (is_stored s t) refl answer
+pub put-step : (start s : StoreOf) (seen : List RdfTriple) (t : RdfTriple) (p : Put) → ArePutInTurn start seen s → IsTriple t → p ≡ put_of (is_stored s t) → (p ≡ Added → HasRoom s t) → ArePutInTurn start (seen ++ t ∷ []) (stored_in s t)
+put-step start s seen t p h form answer room = by (is_stored s t) refl answer
   where
-    by : (b : Bool) → is_stored s t ≡ b → p ≡ put_of b → IsLoaded start (seen ++ t ∷ []) (stored_in s t)
-    by true e a = loaded-there start s seen t h form e
-    by false e a = loaded-added start s seen t h form e (room a)
+    by : (b : Bool) → is_stored s t ≡ b → p ≡ put_of b → ArePutInTurn start (seen ++ t ∷ []) (stored_in s t)
+    by true e a = put-there start s seen t h form e
+    by false e a = put-added start s seen t h form e (room a)
 
-refuses_none : (start s : StoreOf) (seen : List RdfTriple) (t : RdfTriple) (p : Put) → IsLoaded start seen s → p ≡ put_of (is_stored s t) → (p ≡ Added → HasRoom s t) → refusal_behind seen t ≡ None
+refuses_none : (start s : StoreOf) (seen : List RdfTriple) (t : RdfTriple) (p : Put) → ArePutInTurn start seen s → p ≡ put_of (is_stored s t) → (p ≡ Added → HasRoom s t) → refusal_behind seen t ≡ None
 refuses_none start s seen t p h answer room = by (is_stored s t) refl answer
   where
     by : (b : Bool) → is_stored s t ≡ b → p ≡ put_of b → refusal_behind seen t ≡ None
     by true e a = there-refuses_none start s seen t h e
     by false e a = added-refuses_none start s seen t h e (room a)
 
-pub refusal-step : (start s : StoreOf) (seen later : List RdfTriple) (t : RdfTriple) (p : Put) → IsLoaded start seen s → p ≡ put_of (is_stored s t) → (p ≡ Added → HasRoom s t)
+pub refusal-step : (start s : StoreOf) (seen later : List RdfTriple) (t : RdfTriple) (p : Put) → ArePutInTurn start seen s → p ≡ put_of (is_stored s t) → (p ≡ Added → HasRoom s t)
     → refusal_from seen (t ∷ later) ≡ refusal_from (seen ++ t ∷ []) later
 refusal-step start s seen later t p h answer room = ap (λ (o : Option StoreRefusal). or_later o (refusal_from (seen ++ t ∷ []) later)) (refuses_none start s seen t p h answer room)
 
 -- a triple that was refused
-refused-behind : (start s : StoreOf) (seen : List RdfTriple) (t : RdfTriple) (e : StoreRefusal) → IsLoaded start seen s → e ≢ NoMemory → Refuses e s t → refusal_behind seen t ≡ Some e
+refused-behind : (start s : StoreOf) (seen : List RdfTriple) (t : RdfTriple) (e : StoreRefusal) → ArePutInTurn start seen s → e ≢ NoMemory → Refuses e s t → refusal_behind seen t ≡ Some e
 refused-behind start s seen t Triples h n r =
     let a : list_any (same_triple t) (each_once seen) ≡ false = seen-same start s seen t h ∙ r.0 in
     let full = r.1 in
@@ -190,7 +190,7 @@ refused-behind start s seen t Lists h n r = absurd (by r.3)
         omega arith
 refused-behind start s seen t NoMemory h n r = absurd (n refl)
 
-pub refused-step : (start s : StoreOf) (seen later : List RdfTriple) (t : RdfTriple) (e : StoreRefusal) → IsLoaded start seen s → Refuses e s t → e ≢ NoMemory → refusal_from seen (t ∷ later) ≡ Some e
+pub refused-step : (start s : StoreOf) (seen later : List RdfTriple) (t : RdfTriple) (e : StoreRefusal) → ArePutInTurn start seen s → Refuses e s t → e ≢ NoMemory → refusal_from seen (t ∷ later) ≡ Some e
 refused-step start s seen later t e h r n = ap (λ (o : Option StoreRefusal). or_later o (refusal_from (seen ++ t ∷ []) later)) (refused-behind start s seen t e h n r)
 
 -- a turn of the loop
@@ -200,23 +200,19 @@ taken-on ts i t l e = take_more ts i t l ∙ ap (λ (u : RdfTriple). take i ts +
 left-on : (ts : List RdfTriple) (i : ℕ) (t : RdfTriple) → i < length ts → t ≡ get_or ts i t → drop i ts ≡ t ∷ drop (i + 1) ts
 left-on ts i t l e = drop_more ts i t l ∙ ap (λ (u : RdfTriple). u ∷ drop (i + 1) ts) (sym e)
 
-pub loaded-on : (start s new : StoreOf) (ts : List RdfTriple) (i : ℕ) (t : RdfTriple) (p : Put) → i < length ts → t ≡ get_or ts i t → IsLoaded start (take i ts) s → IsTriple t → p ≡ put_of (is_stored s t) → (p ≡ Added → HasRoom s t)
-    → new ≡ stored_in s t → IsLoaded start (take (i + 1) ts) new
-loaded-on start s new ts i t p l e h form answer room stored =
-    subst (λ (seen : List RdfTriple). IsLoaded start seen new) (sym (taken-on ts i t l e))
-    (subst (λ (w : StoreOf). IsLoaded start (take i ts ++ t ∷ []) w) (sym stored) (loaded-step start s (take i ts) t p h form answer room))
+pub put-on : (start s new : StoreOf) (ts : List RdfTriple) (i : ℕ) (t : RdfTriple) (p : Put) → i < length ts → t ≡ get_or ts i t → ArePutInTurn start (take i ts) s → IsTriple t → p ≡ put_of (is_stored s t) → (p ≡ Added → HasRoom s t)
+    → new ≡ stored_in s t → ArePutInTurn start (take (i + 1) ts) new
+put-on start s new ts i t p l e h form answer room stored =
+    subst (λ (seen : List RdfTriple). ArePutInTurn start seen new) (sym (taken-on ts i t l e))
+    (subst (λ (w : StoreOf). ArePutInTurn start (take i ts ++ t ∷ []) w) (sym stored) (put-step start s (take i ts) t p h form answer room))
 
-pub refusal-on : (start s : StoreOf) (ts : List RdfTriple) (i : ℕ) (t : RdfTriple) (p : Put) → i < length ts → t ≡ get_or ts i t → IsLoaded start (take i ts) s → p ≡ put_of (is_stored s t) → (p ≡ Added → HasRoom s t)
+pub refusal-on : (start s : StoreOf) (ts : List RdfTriple) (i : ℕ) (t : RdfTriple) (p : Put) → i < length ts → t ≡ get_or ts i t → ArePutInTurn start (take i ts) s → p ≡ put_of (is_stored s t) → (p ≡ Added → HasRoom s t)
     → refusal_from [] ts ≡ refusal_from (take i ts) (drop i ts) → refusal_from [] ts ≡ refusal_from (take (i + 1) ts) (drop (i + 1) ts)
 refusal-on start s ts i t p l e h answer room before =
     before ∙ ap (λ (later : List RdfTriple). refusal_from (take i ts) later) (left-on ts i t l e) ∙ refusal-step start s (take i ts) (drop (i + 1) ts) t p h answer room
     ∙ ap (λ (seen : List RdfTriple). refusal_from seen (drop (i + 1) ts)) (sym (taken-on ts i t l e))
 
-pub refused-on : (start s : StoreOf) (ts : List RdfTriple) (i : ℕ) (t : RdfTriple) (r : StoreRefusal) → i < length ts → t ≡ get_or ts i t → IsLoaded start (take i ts) s → Refuses r s t
+pub refused-on : (start s : StoreOf) (ts : List RdfTriple) (i : ℕ) (t : RdfTriple) (r : StoreRefusal) → i < length ts → t ≡ get_or ts i t → ArePutInTurn start (take i ts) s → Refuses r s t
     → refusal_from [] ts ≡ refusal_from (take i ts) (drop i ts) → r ≢ NoMemory → refusal_from [] ts ≡ Some r
 refused-on start s ts i t r l e h refuses before n =
     before ∙ ap (λ (later : List RdfTriple). refusal_from (take i ts) later) (left-on ts i t l e) ∙ refused-step start s (take i ts) (drop (i + 1) ts) t r h refuses n
-
--- the layout of a loaded store
-pub loaded-layout : (layout : LayoutOf) (s : StoreOf) (seen : List RdfTriple) → IsLoaded (empty_store layout) seen s → layout_of s ≡ layout
-loaded-layout layout s seen h = let d = h.direct_columns in let r = h.reverse_columns in λ i. record { direct = d i; reverse = r i }

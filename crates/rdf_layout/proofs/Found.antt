@@ -22,7 +22,7 @@ use Rattle.triple_sides.specs.declared.sides.IdTriple.{IdTriple}
 use Rattle.standing_meaning.specs.Dictionary.{IsTriple}
 use Rattle.standing_meaning.specs.Schemas.{LayoutOf}
 use Rattle.standing_meaning.specs.Sides.{SidesOf, AreSides, turned}
-use Rattle.standing_meaning.specs.Stored.{StoreOf, IsStore, IsItem, IsIdIn, sides_of, triple_by, stored_triples}
+use Rattle.standing_meaning.specs.Stored.{StoreOf, IsStore, IsItem, IsIdIn, sides_of, layout_of, triple_by, stored_triples, text_of_id}
 use Rattle.standing_meaning.specs.Changes.{with_terms, item_in, store_of, is_stored, stored_in}
 use Rattle.standing_meaning.proofs.Steps.{count-held, each-bag_item, sides-empty}
 use Rattle.standing_meaning.proofs.Terms.{term_at-id}
@@ -42,10 +42,10 @@ use Rattle.shredder.specs.Items as placed
 use Rattle.rdf_layout.specs.declared.refusal.StoreRefusal.{StoreRefusal}
 use Rattle.rdf_layout.specs.declared.refusal.StoreRefusal.TheVariants.{Triples, NoMemory}
 use Rattle.rdf_layout.specs.Refused.{Refuses, HasRoom, of_book}
-use Rattle.rdf_layout.specs.Bulk.{empty_sides, empty_store, IsLoaded, refusal_from}
-use Rattle.rdf_layout.specs.Gathered.{is_item, is_among, turned_placed, AreItemsOf, AreStored, with_found, HasSpace, Gathers, layout_by}
+use Rattle.rdf_layout.specs.Bulk.{empty_sides, empty_store, ArePutInTurn, refusal_from}
+use Rattle.rdf_layout.specs.Gathered.{is_item, is_among, turned_placed, AreItemsOf, AreStored, with_found, HasSpace, Gathers}
 use Rattle.rdf_layout.proofs.Putting.{count-is, noted-item, noted-held, refused-book, is-full}
-use Rattle.rdf_layout.proofs.Filling.{loaded-none, loaded-on, refusal-on, refused-on, once-more, seen-same, taken-on}
+use Rattle.rdf_layout.proofs.Filling.{put-none, put-on, refusal-on, refused-on, once-more, seen-same, taken-on}
 
 -- ---- what is found
 
@@ -147,9 +147,9 @@ grown s t terms xs h form =
 -- ---- a turn of the loop
 
 of-gathers : (seen : List RdfTriple) (terms : List RdfTerm) (xs : List Item) (g : Gathers seen terms xs) → AreItemsOf g.store terms xs
-of-gathers seen terms xs g = record { good = g.loaded.store; same_terms = g.same_terms; same_items = g.same_items }
+of-gathers seen terms xs g = record { good = g.put.store; same_terms = g.same_terms; same_items = g.same_items }
 
-room-of : (start s : StoreOf) (seen : List RdfTriple) (t : RdfTriple) → IsLoaded start seen s → HasSpace s t → put_of (is_stored s t) ≡ Added → HasRoom s t
+room-of : (start s : StoreOf) (seen : List RdfTriple) (t : RdfTriple) → ArePutInTurn start seen s → HasSpace s t → put_of (is_stored s t) ≡ Added → HasRoom s t
 room-of start s seen t h space = by (is_stored s t) space
   where
     by : (b : Bool) → (b ≡ false → (length (stored_triples s) < 1000000) × (length (with_terms s.terms t) ≤ 4000000)) → put_of b ≡ Added → HasRoom s t
@@ -180,7 +180,7 @@ found-bag s t terms xs ys h form made = by (is_stored s t) refl made
         turn : SameBag (items (stored_in s t).direct.state) (item ∷ items s.direct.state) → SameBag (item ∷ items s.direct.state) (items (stored_in s t).direct.state)
         turn p = record { totals = λ (g : Item → ℕ). sym (p.totals g) }
 
-found-order : (start s : StoreOf) (seen : List RdfTriple) (t : RdfTriple) (terms new : List RdfTerm) (xs ys : List Item) → IsLoaded start seen s → AreItemsOf s terms xs → IsTriple t → new ≡ with_terms terms t → ys ≡ with_found s t xs
+found-order : (start s : StoreOf) (seen : List RdfTriple) (t : RdfTriple) (terms new : List RdfTerm) (xs ys : List Item) → ArePutInTurn start seen s → AreItemsOf s terms xs → IsTriple t → new ≡ with_terms terms t → ys ≡ with_found s t xs
     → map (triple_by terms) xs ≡ each_once seen → map (triple_by new) ys ≡ each_once (seen ++ t ∷ [])
 found-order start s seen t terms new xs ys load h form e made order =
     ap (λ (l : List RdfTerm). map (triple_by l) ys) (noted-terms s t terms new xs h e) ∙ by (is_stored s t) refl made ∙ sym (once-more seen t)
@@ -213,21 +213,21 @@ gathers-on ts i t terms new xs ys l e g form noted found space =
     record {
       start = g.start;
       store = stored_in s t;
-      loaded = loaded-on g.start s (stored_in s t) ts i t (put_of (is_stored s t)) l e g.loaded form refl (room-of g.start s (take i ts) t g.loaded (space s h)) refl;
+      put = put-on g.start s (stored_in s t) ts i t (put_of (is_stored s t)) l e g.put form refl (room-of g.start s (take i ts) t g.put (space s h)) refl;
       same_terms = noted-terms s t terms new xs h noted;
       same_items = found-bag s t terms xs ys h form (found s h);
-      order = found-order g.start s (take i ts) t terms new xs ys g.loaded h form noted (found s h) g.order ∙ ap each_once (sym (taken-on ts i t l e));
+      order = found-order g.start s (take i ts) t terms new xs ys g.put h form noted (found s h) g.order ∙ ap each_once (sym (taken-on ts i t l e));
     }
 
 pub gathers-refusal : (ts : List RdfTriple) (i : ℕ) (t : RdfTriple) (terms : List RdfTerm) (xs : List Item) → i < length ts → t ≡ get_or ts i t → Gathers (take i ts) terms xs → ((s : StoreOf) → AreItemsOf s terms xs → HasSpace s t)
     → refusal_from [] ts ≡ refusal_from (take i ts) (drop i ts) → refusal_from [] ts ≡ refusal_from (take (i + 1) ts) (drop (i + 1) ts)
 gathers-refusal ts i t terms xs l e g space before =
     let s : StoreOf = g.store in
-    refusal-on g.start s ts i t (put_of (is_stored s t)) l e g.loaded refl (room-of g.start s (take i ts) t g.loaded (space s (of-gathers (take i ts) terms xs g))) before
+    refusal-on g.start s ts i t (put_of (is_stored s t)) l e g.put refl (room-of g.start s (take i ts) t g.put (space s (of-gathers (take i ts) terms xs g))) before
 
 pub gathers-refused : (ts : List RdfTriple) (i : ℕ) (t : RdfTriple) (terms : List RdfTerm) (xs : List Item) (r : StoreRefusal) → i < length ts → t ≡ get_or ts i t → Gathers (take i ts) terms xs → ((s : StoreOf) → AreItemsOf s terms xs → Refuses r s t)
     → refusal_from [] ts ≡ refusal_from (take i ts) (drop i ts) → r ≢ NoMemory → refusal_from [] ts ≡ Some r
-gathers-refused ts i t terms xs r l e g refuses before n = refused-on g.start g.store ts i t r l e g.loaded (refuses g.store (of-gathers (take i ts) terms xs g)) before n
+gathers-refused ts i t terms xs r l e g refuses before n = refused-on g.start g.store ts i t r l e g.put (refuses g.store (of-gathers (take i ts) terms xs g)) before n
 
 -- ---- nothing gathered yet
 
@@ -253,7 +253,7 @@ gathers-none terms xs e f =
     record {
       start = start;
       store = start;
-      loaded = loaded-none (record { direct = plain; reverse = plain }) plain-sides;
+      put = put-none (record { direct = plain; reverse = plain }) plain-sides;
       same_terms = e;
       same_items = subst (λ (l : List Item). SameBag l []) (sym f) (same-refl []);
       order = ap (map (triple_by terms)) f;
@@ -276,14 +276,14 @@ pub gathered-stored : (seen : List RdfTriple) (terms : List RdfTerm) (xs : List 
 gathered-stored seen terms xs g = record { store = g.store; held = of-gathers seen terms xs g }
 
 pub gathered-terms : (seen : List RdfTriple) (terms : List RdfTerm) (xs : List Item) → Gathers seen terms xs → terms ≡ terms_of seen
-gathered-terms seen terms xs g = g.same_terms ∙ g.loaded.terms
+gathered-terms seen terms xs g = g.same_terms ∙ g.put.terms
 
 pub gathered-items : (seen : List RdfTriple) (terms : List RdfTerm) (xs : List Item) → Gathers seen terms xs → xs ≡ bulk_items seen
 gathered-items seen terms xs g =
     let s : StoreOf = g.store in
-    let each : AllByRecursion (IsItem s.terms) xs = each-bag_item (IsItem s.terms) xs (items s.direct.state) g.same_items g.loaded.store.each_item in
+    let each : AllByRecursion (IsItem s.terms) xs = each-bag_item (IsItem s.terms) xs (items s.direct.state) g.same_items g.put.store.each_item in
     let order : map (triple_by s.terms) xs ≡ each_once seen = ap (λ (l : List RdfTerm). map (triple_by l) xs) (sym g.same_terms) ∙ g.order in
-    sym (items-back s xs g.loaded.store each) ∙ ap (map (item_in s.terms)) order ∙ ap (λ (l : List RdfTerm). map (item_in l) (each_once seen)) g.loaded.terms
+    sym (items-back s xs g.put.store each) ∙ ap (map (item_in s.terms)) order ∙ ap (λ (l : List RdfTerm). map (item_in l) (each_once seen)) g.put.terms
 
 -- the items of the reverse side
 pub turned-items : (xs : List Placed) → map placed.item_of (map turned_placed xs) ≡ map turned (map placed.item_of xs)
@@ -308,12 +308,12 @@ reverse-ids terms ps h =
     (each-map (λ (x : Item). IsIdIn terms x.pred) turned (map placed.item_of ps) (pred-ids terms (map placed.item_of ps) h))
 
 -- both sides as they are made
-pub sides-made : (terms : List RdfTerm) (ps qs : List Placed) (direct reverse : SideOf) → qs ≡ map turned_placed ps → direct ≡ bulk_side direct.columns (placed.iri_in terms) (map placed.item_of ps)
-    → reverse ≡ bulk_side reverse.columns (placed.iri_in terms) (map placed.item_of qs)
+pub sides-made : (terms : List RdfTerm) (ps qs : List Placed) (direct reverse : SideOf) → qs ≡ map turned_placed ps → direct ≡ bulk_side direct.columns (text_of_id terms) (map placed.item_of ps)
+    → reverse ≡ bulk_side reverse.columns (text_of_id terms) (map placed.item_of qs)
     → record { direct = direct; reverse = reverse } ≡ bulk_sides (record { direct = direct.columns; reverse = reverse.columns }) terms (map placed.item_of ps)
 sides-made terms ps qs direct reverse q d r =
-    let e : reverse ≡ bulk_side reverse.columns (placed.iri_in terms) (map turned (map placed.item_of ps)) =
-    r ∙ ap (λ (xs : List Item). bulk_side reverse.columns (placed.iri_in terms) xs) (ap (map placed.item_of) q ∙ turned-items ps) in
+    let e : reverse ≡ bulk_side reverse.columns (text_of_id terms) (map turned (map placed.item_of ps)) =
+    r ∙ ap (λ (xs : List Item). bulk_side reverse.columns (text_of_id terms) xs) (ap (map placed.item_of) q ∙ turned-items ps) in
     λ i. record { direct = d i; reverse = e i }
 
 made-store : (layout : LayoutOf) (terms : List RdfTerm) (xs : List Item) → BulksAreStores → HaveCandidates layout.direct → HaveCandidates layout.reverse → AreStored terms xs → IsStore (store_of terms (bulk_sides layout terms xs))
@@ -329,13 +329,13 @@ made-triples layout terms xs law d r h =
 
 -- what holds of them
 pub record MadeSides (terms : List RdfTerm) (ps : List Placed) (sides : SidesOf) : Type 0 where
-  pub made : sides ≡ bulk_sides (layout_by sides) terms (map placed.item_of ps)
+  pub made : sides ≡ bulk_sides (layout_of (store_of terms sides)) terms (map placed.item_of ps)
   pub store : IsStore (store_of terms sides)
   pub triples : SameBag (stored_triples (store_of terms sides)) (map (triple_by terms) (map placed.item_of ps))
   pub in_order : AreInOrder sides
 
 pub made-sides : (terms : List RdfTerm) (ps qs : List Placed) (direct reverse : SideOf) → BulksAreStores → BulksHoldTheirItems → BulksAreInOrder → AreStored terms (map placed.item_of ps) → qs ≡ map turned_placed ps
-    → direct ≡ bulk_side direct.columns (placed.iri_in terms) (map placed.item_of ps) → reverse ≡ bulk_side reverse.columns (placed.iri_in terms) (map placed.item_of qs)
+    → direct ≡ bulk_side direct.columns (text_of_id terms) (map placed.item_of ps) → reverse ≡ bulk_side reverse.columns (text_of_id terms) (map placed.item_of qs)
     → HaveCandidates direct.columns → HaveCandidates reverse.columns → MadeSides terms ps (record { direct = direct; reverse = reverse })
 made-sides terms ps qs direct reverse stores hold ordered h q d r a b =
     let layout : LayoutOf = record { direct = direct.columns; reverse = reverse.columns } in
@@ -350,22 +350,22 @@ made-sides terms ps qs direct reverse stores hold ordered h q d r a b =
 
 -- the columns of both sides are those for their items
 pub made-layout : (choice : ChoiceOf) (terms : List RdfTerm) (ps qs : List Placed) (direct reverse : SideOf) (greedy : Bool) (first second : ColumnsOf) → greedy ≡ choice.greedy → first ≡ choice.direct → second ≡ choice.reverse
-    → qs ≡ map turned_placed ps → AreColumnsFor greedy first (placed.iri_in terms) (map placed.item_of ps) direct.columns → AreColumnsFor greedy second (placed.iri_in terms) (map placed.item_of qs) reverse.columns
-    → IsLayoutFor choice terms (map placed.item_of ps) (layout_by (record { direct = direct; reverse = reverse }))
+    → qs ≡ map turned_placed ps → AreColumnsFor greedy first (text_of_id terms) (map placed.item_of ps) direct.columns → AreColumnsFor greedy second (text_of_id terms) (map placed.item_of qs) reverse.columns
+    → IsLayoutFor choice terms (map placed.item_of ps) (layout_of (store_of terms (record { direct = direct; reverse = reverse })))
 made-layout choice terms ps qs direct reverse greedy first second g f e q d r = record {
-  direct = subst (λ (b : Bool). AreColumnsFor b choice.direct (placed.iri_in terms) (map placed.item_of ps) direct.columns) g
-      (subst (λ (k : ColumnsOf). AreColumnsFor greedy k (placed.iri_in terms) (map placed.item_of ps) direct.columns) f d);
-  reverse = subst (λ (b : Bool). AreColumnsFor b choice.reverse (placed.iri_in terms) (map turned (map placed.item_of ps)) reverse.columns) g
-      (subst (λ (k : ColumnsOf). AreColumnsFor greedy k (placed.iri_in terms) (map turned (map placed.item_of ps)) reverse.columns) e
-      (subst (λ (xs : List Item). AreColumnsFor greedy second (placed.iri_in terms) xs reverse.columns) (ap (map placed.item_of) q ∙ turned-items ps) r));
+  direct = subst (λ (b : Bool). AreColumnsFor b choice.direct (text_of_id terms) (map placed.item_of ps) direct.columns) g
+      (subst (λ (k : ColumnsOf). AreColumnsFor greedy k (text_of_id terms) (map placed.item_of ps) direct.columns) f d);
+  reverse = subst (λ (b : Bool). AreColumnsFor b choice.reverse (text_of_id terms) (map turned (map placed.item_of ps)) reverse.columns) g
+      (subst (λ (k : ColumnsOf). AreColumnsFor greedy k (text_of_id terms) (map turned (map placed.item_of ps)) reverse.columns) e
+      (subst (λ (xs : List Item). AreColumnsFor greedy second (text_of_id terms) xs reverse.columns) (ap (map placed.item_of) q ∙ turned-items ps) r));
 }
 
 -- ---- the whole load
 
-pub loaded-placed : (seen : List RdfTriple) (terms : List RdfTerm) (xs : List Item) (sides : SidesOf) → Gathers seen terms xs → sides ≡ bulk_sides (layout_by sides) terms xs → store_of terms sides ≡ bulk_store (layout_by sides) seen
+pub loaded-placed : (seen : List RdfTriple) (terms : List RdfTerm) (xs : List Item) (sides : SidesOf) → Gathers seen terms xs → sides ≡ bulk_sides (layout_of (store_of terms sides)) terms xs → store_of terms sides ≡ bulk_store (layout_of (store_of terms sides)) seen
 loaded-placed seen terms xs sides g e =
     ap (store_of terms) e
-    ∙ (λ i. store_of (gathered-terms seen terms xs g i) (bulk_sides (layout_by sides) (gathered-terms seen terms xs g i) (gathered-items seen terms xs g i)))
+    ∙ (λ i. store_of (gathered-terms seen terms xs g i) (bulk_sides (layout_of (store_of terms sides)) (gathered-terms seen terms xs g i) (gathered-items seen terms xs g i)))
 
 pub loaded-for : (choice : ChoiceOf) (seen : List RdfTriple) (terms : List RdfTerm) (xs : List Item) (layout : LayoutOf) → Gathers seen terms xs → IsLayoutFor choice terms xs layout → IsLayoutFor choice (terms_of seen) (bulk_items seen) layout
 loaded-for choice seen terms xs layout g h =

@@ -1,18 +1,18 @@
 -- Entities of a coloured bulk have one row.
-use Rattle.std.proofs.Common.{◌≡◌, ◌≤◌, ◌||◌, ℕ, nat_eq, Bool, true, false, is_some, List, [], ◌∷◌, map, length, refl, sym, ap, ◌∙◌, subst, arith}
-use Rattle.std.specs.List.{list_any, AllByRecursion, IsDistinct}
+use Rattle.std.proofs.Common.{◌≡◌, ◌≤◌, ◌||◌, ℕ, nat_eq, Bool, true, false, List, [], ◌∷◌, map, length, refl, sym, ap, ◌∙◌, subst, arith}
+use Rattle.std.specs.List.{AllByRecursion, IsDistinct}
 use Rattle.bags.specs.Bag.{SameBag}
 use Rattle.bags.specs.BagLaws.{same-sym, same-trans, same-map, same-any, each-weaker, each-map}
 use Rattle.rdf_meaning.specs.declared.kind.TermKind.{TermKind}
 use Rattle.rdf_meaning.specs.declared.kind.TermKind.TheVariants.{Iri, Blank, Tagged, Typed}
 use Rattle.rdf_meaning.specs.Terms.{RdfTerm, is_empty, is_term, can_be_predicate, iri, same_term}
-use Rattle.layout_meaning.specs.Columns.{ColumnsOf, known_column}
+use Rattle.layout_meaning.specs.Columns.{ColumnsOf}
 use Rattle.layout_meaning.specs.Side.{Item, items, rows_of}
 use Rattle.layout_meaning.specs.Rows.{SideOf}
 use Rattle.colour_meaning.specs.Interference.{has}
 use Rattle.standing_meaning.specs.Dictionary.{IsTerm, id_of, entries_of}
-use Rattle.standing_meaning.specs.Sides.{SidesOf, turned}
-use Rattle.standing_meaning.specs.Stored.{StoreOf, IsStore, IsItem, IsIdIn, term_at}
+use Rattle.standing_meaning.specs.Sides.{turned}
+use Rattle.standing_meaning.specs.Stored.{StoreOf, IsStore, IsItem, IsIdIn, term_at, text_of_id}
 use Rattle.standing_meaning.specs.Changes.{store_of}
 use Rattle.standing_meaning.proofs.Steps.{items-once, each-bag_item}
 use Rattle.standing_meaning.proofs.Terms.{term_at-id, term_at-form}
@@ -62,7 +62,7 @@ pred-of P p (x ∷ xs) a h = by (pred-of P p xs a.1) (nat_eq p x.pred) refl h
     by ih true e k = subst P (let s : x.pred ≡ p = grind arith in s) a.0
     by ih false e k = ih k
 
-tell-apart : (terms : List RdfTerm) (xs : List Item) → IsDistinct same_term terms → AllByRecursion IsTerm terms → AllByRecursion (λ (x : Item). IsPred terms x.pred) xs → TellApart (placed.iri_in terms) xs
+tell-apart : (terms : List RdfTerm) (xs : List Item) → IsDistinct same_term terms → AllByRecursion IsTerm terms → AllByRecursion (λ (x : Item). IsPred terms x.pred) xs → TellApart (text_of_id terms) xs
 tell-apart terms xs distinct forms all p q hp hq same =
     let a : IsPred terms p = pred-of (IsPred terms) p xs all hp in
     let b : IsPred terms q = pred-of (IsPred terms) q xs all hq in
@@ -75,13 +75,13 @@ tell-apart terms xs distinct forms all p q hp hq same =
 under-same : (xs ys : List Item) (e p : ℕ) → SameBag xs ys → has p (preds_under xs e) ≡ has p (preds_under ys e)
 under-same xs ys e p h = under_is e p xs ∙ same-any (is_pair e p) xs ys h ∙ sym (under_is e p ys)
 
-one-side : (law : ColouredEntitiesHaveOneRow) (terms : List RdfTerm) (chosen : ColumnsOf) (xs : List Item) (s : SideOf) → s ≡ bulk_side s.columns (placed.iri_in terms) xs → HaveCandidates s.columns
-    → AreColumnsFor true chosen (placed.iri_in terms) xs s.columns → AreApart xs → TellApart (placed.iri_in terms) xs → KnownHaveOneRow terms s
+one-side : (law : ColouredEntitiesHaveOneRow) (terms : List RdfTerm) (chosen : ColumnsOf) (xs : List Item) (s : SideOf) → s ≡ bulk_side s.columns (text_of_id terms) xs → HaveCandidates s.columns
+    → AreColumnsFor true chosen (text_of_id terms) xs s.columns → AreApart xs → TellApart (text_of_id terms) xs → KnownHaveOneRow terms s
 one-side law terms chosen xs s is some columns apart tell e known =
-    let bag : SameBag (items s.state) xs = subst (λ (w : SideOf). SameBag (items w.state) xs) (sym is) (bulk-bag s.columns (placed.iri_in terms) xs some apart) in
-    let colours : AreBulkColours s.columns.count (placed.iri_in terms) xs s.columns.known = subst (λ (k : ℕ). AreBulkColours k (placed.iri_in terms) xs s.columns.known) (sym columns.count) columns.known in
+    let bag : SameBag (items s.state) xs = subst (λ (w : SideOf). SameBag (items w.state) xs) (sym is) (bulk-bag s.columns (text_of_id terms) xs some apart) in
+    let colours : AreBulkColours s.columns.count (text_of_id terms) xs s.columns.known = subst (λ (k : ℕ). AreBulkColours k (text_of_id terms) xs s.columns.known) (sym columns.count) columns.known in
     subst (λ (w : SideOf). length (rows_of w.state.entities e) ≤ 1) (sym is)
-    (law s.columns (placed.iri_in terms) xs e some tell colours (λ p h. known p (under-same (items s.state) xs e p bag ∙ h)))
+    (law s.columns (text_of_id terms) xs e some tell colours (λ p h. known p (under-same (items s.state) xs e p bag ∙ h)))
 
 -- ---- both sides
 
@@ -92,8 +92,8 @@ preds-of terms xs a = each-weaker (IsItem terms) (λ (x : Item). IsPred terms x.
 record Stored (terms : List RdfTerm) (xs : List Item) : Type 0 where
   direct : AreApart xs
   reverse : AreApart (map turned xs)
-  tell_direct : TellApart (placed.iri_in terms) xs
-  tell_reverse : TellApart (placed.iri_in terms) (map turned xs)
+  tell_direct : TellApart (text_of_id terms) xs
+  tell_reverse : TellApart (text_of_id terms) (map turned xs)
 
 stored-here : (s : StoreOf) (xs : List Item) → IsStore s → SameBag xs (items s.direct.state) → Stored s.terms xs
 stored-here s xs h same =
@@ -110,14 +110,14 @@ stored : (terms : List RdfTerm) (xs : List Item) → AreStored terms xs → Stor
 stored terms xs h = subst (λ (l : List RdfTerm). Stored l xs) (sym h.held.same_terms) (stored-here h.store xs h.held.good h.held.same_items)
 
 pub one-row : (law : ColouredEntitiesHaveOneRow) (terms : List RdfTerm) (first second : ColumnsOf) (ps qs : List Placed) (direct reverse : SideOf) → AreStored terms (map placed.item_of ps) → qs ≡ map turned_placed ps
-    → direct ≡ bulk_side direct.columns (placed.iri_in terms) (map placed.item_of ps) → reverse ≡ bulk_side reverse.columns (placed.iri_in terms) (map placed.item_of qs)
+    → direct ≡ bulk_side direct.columns (text_of_id terms) (map placed.item_of ps) → reverse ≡ bulk_side reverse.columns (text_of_id terms) (map placed.item_of qs)
     → HaveCandidates direct.columns → HaveCandidates reverse.columns
-    → AreColumnsFor true first (placed.iri_in terms) (map placed.item_of ps) direct.columns → AreColumnsFor true second (placed.iri_in terms) (map placed.item_of qs) reverse.columns
+    → AreColumnsFor true first (text_of_id terms) (map placed.item_of ps) direct.columns → AreColumnsFor true second (text_of_id terms) (map placed.item_of qs) reverse.columns
     → ColouredHaveOneRow (store_of terms (record { direct = direct; reverse = reverse }))
 one-row law terms first second ps qs direct reverse h q d r a b c e =
     let k = stored terms (map placed.item_of ps) h in
     let t : map placed.item_of qs ≡ map turned (map placed.item_of ps) = ap (map placed.item_of) q ∙ turned-items ps in
     record {
       direct = one-side law terms first (map placed.item_of ps) direct d a c k.direct k.tell_direct;
-      reverse = one-side law terms second (map placed.item_of qs) reverse r b e (subst AreApart (sym t) k.reverse) (subst (TellApart (placed.iri_in terms)) (sym t) k.tell_reverse);
+      reverse = one-side law terms second (map placed.item_of qs) reverse r b e (subst AreApart (sym t) k.reverse) (subst (TellApart (text_of_id terms)) (sym t) k.tell_reverse);
     }

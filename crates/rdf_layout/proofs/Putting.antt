@@ -1,21 +1,21 @@
 -- Triples that are put into a dictionary and two sides.
-use Rattle.std.proofs.Common.{◌≡◌, ◌⊎◌, inl, inr, ℕ, ◌+◌, ◌-◌, ◌≤◌, ◌<◌, ◌^◌, ◌||◌, Bool, true, false, if◌then◌else◌, List, [], ◌∷◌, ◌++◌, map, Option, Some, None, length, Contains, refl, sym, ap, ◌∙◌, arith, subst}
-use Rattle.std.specs.List.{list_any, IsDistinct}
+use Rattle.std.proofs.Common.{◌≡◌, inl, inr, ℕ, ◌+◌, ◌-◌, ◌≤◌, ◌<◌, Bool, true, false, List, [], ◌∷◌, map, length, Contains, refl, sym, ap, ◌∙◌, arith, subst}
+use Rattle.std.specs.List.{IsDistinct}
 use Rattle.std.proofs.lemmas.Map.Views.{Contains-from_any}
 use Rattle.bags.specs.Bag.{total}
 use Rattle.bags.specs.BagLaws.{total-one_each}
 use Rattle.rdf_meaning.specs.Terms.{RdfTerm, RdfTriple, same_term}
-use Rattle.rdf_meaning.specs.TermLaws.{same_term-is, same_term-self}
+use Rattle.rdf_meaning.specs.TermLaws.{same_term-is}
 use Rattle.layout_meaning.specs.Side.{Item, items, is_held}
 use Rattle.term_book.specs.Book.{HasId}
 use Rattle.triple_sides.specs.Items.{item_of}
 use Rattle.triple_sides.specs.declared.sides.IdTriple.{IdTriple}
-use Rattle.standing_meaning.specs.Dictionary.{IsTriple, id_of, has_term, numbered_from, entries_of}
+use Rattle.standing_meaning.specs.Dictionary.{IsTriple, id_of, has_term, entries_of}
 use Rattle.standing_meaning.specs.Sides.{SidesOf, both_placed, both_taken}
 use Rattle.standing_meaning.specs.Stored.{StoreOf, IsStore, sides_of, triple_by, stored_triples}
-use Rattle.standing_meaning.specs.Changes.{with_term, with_terms, item_in, store_of, is_stored, stored_in, taken_out}
+use Rattle.standing_meaning.specs.Changes.{with_terms, item_in, store_of, is_stored, stored_in, taken_out}
 use Rattle.standing_meaning.proofs.Terms.{id-numbered}
-use Rattle.standing_meaning.proofs.Present.{HasTerms, stored-held, held-terms}
+use Rattle.standing_meaning.proofs.Present.{stored-held, held-terms}
 use Rattle.standing_meaning.proofs.Changed.{held-in}
 use Rattle.standing_meaning.proofs.Growth.{grown-triple}
 use Rattle.standing_meaning.proofs.Steps.{both-held, both-free}

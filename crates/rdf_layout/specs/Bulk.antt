@@ -22,8 +22,8 @@ abbrev pub empty_store : LayoutOf → StoreOf
 empty_store layout = store_of [] (empty_sides layout)
 
 -- a store after triples were put in one after another
-abbrev pub loaded : StoreOf → List RdfTriple → StoreOf
-loaded start triples = fold stored_in start triples
+abbrev pub put_in_turn : StoreOf → List RdfTriple → StoreOf
+put_in_turn start triples = fold stored_in start triples
 
 -- the refusal of a triple behind others: it is new and 1,000,000 others are there, or else its terms would pass 4,000,000
 abbrev pub refusal_behind : List RdfTriple → RdfTriple → Option StoreRefusal
@@ -43,9 +43,9 @@ refusal_from seen [] = None
 refusal_from seen (t ∷ later) = or_later (refusal_behind seen t) (refusal_from (seen ++ t ∷ []) later)
 
 -- a store into which these triples were put, none of them refused: a list id at most for each triple that is stored
-pub record IsLoaded (start : StoreOf) (seen : List RdfTriple) (s : StoreOf) : Type 0 where
+pub record ArePutInTurn (start : StoreOf) (seen : List RdfTriple) (s : StoreOf) : Type 0 where
   pub store : IsStore s
-  pub placed : s ≡ loaded start seen
+  pub placed : s ≡ put_in_turn start seen
   pub triples : SameBag (stored_triples s) (each_once seen)
   pub terms : s.terms ≡ terms_of seen
   pub few : length (stored_triples s) ≤ 1000000

@@ -4,13 +4,11 @@ use Rattle.std.specs.List.{list_any}
 use Rattle.bags.specs.Bag.{SameBag}
 use Rattle.rdf_meaning.specs.Terms.{RdfTerm, RdfTriple}
 use Rattle.layout_meaning.specs.Side.{Item, items}
-use Rattle.standing_meaning.specs.Schemas.{LayoutOf}
-use Rattle.standing_meaning.specs.Sides.{SidesOf}
 use Rattle.standing_meaning.specs.Stored.{StoreOf, IsStore, triple_by, stored_triples}
 use Rattle.standing_meaning.specs.Changes.{with_terms, item_in, is_stored}
 use Rattle.bulk_laws.specs.BulkStore.{each_once}
 use Rattle.shredder.specs.declared.bulk.Placed.{Placed}
-use Rattle.rdf_layout.specs.Bulk.{IsLoaded}
+use Rattle.rdf_layout.specs.Bulk.{ArePutInTurn}
 
 abbrev pub is_item : Item → Item → Bool
 is_item y x = y.entity == x.entity && (y.pred == x.pred && y.value == x.value)
@@ -46,10 +44,7 @@ HasSpace s t = is_stored s t ≡ false → (length (stored_triples s) < 1000000)
 pub record Gathers (seen : List RdfTriple) (terms : List RdfTerm) (xs : List Item) : Type 0 where
   pub start : StoreOf
   pub store : StoreOf
-  pub loaded : IsLoaded start seen store
+  pub put : ArePutInTurn start seen store
   pub same_terms : terms ≡ store.terms
   pub same_items : SameBag xs (items store.direct.state)
   pub order : map (triple_by terms) xs ≡ each_once seen
-
-abbrev pub layout_by : SidesOf → LayoutOf
-layout_by s = record { direct = s.direct.columns; reverse = s.reverse.columns }

@@ -5,14 +5,14 @@ ghost use Rattle.std.specs.List.{AllByRecursion};
 ghost use Rattle.bags.specs.Bag.{SameBag};
 ghost use Rattle.list_order.specs.InOrder.{AreInOrder};
 ghost use Rattle.standing_meaning.specs.Sides.{turned};
-ghost use Rattle.standing_meaning.specs.Stored.{IsIdIn, IsStore, triple_by, stored_triples};
+ghost use Rattle.standing_meaning.specs.Stored.{IsIdIn, IsStore, layout_of, triple_by, stored_triples, text_of_id};
 ghost use Rattle.standing_meaning.specs.Changes.{store_of};
 ghost use Rattle.bulk_meaning.specs.Bulk.{bulk_side};
 ghost use Rattle.columns_meaning.specs.BulkColours.{AreColumnsFor};
 ghost use Rattle.columns_meaning.specs.Layouts.{IsLayoutFor};
 ghost use Rattle.bulk_laws.specs.BulkStore.{bulk_sides, HaveCandidates};
-ghost use Rattle.shredder.specs.Items.{item_of, iri_in};
-ghost use Rattle.rdf_layout.specs.Gathered.{AreStored, layout_by, turned_placed};
+ghost use Rattle.shredder.specs.Items.{item_of};
+ghost use Rattle.rdf_layout.specs.Gathered.{AreStored, turned_placed};
 ghost use Rattle.rdf_layout.specs.OneRow.{ColouredHaveOneRow};
 
 use bulk_columns::columns_for;
@@ -55,8 +55,8 @@ fn side_of(
 ) -> Result<Side, AllocError>
     requires preds { AllByRecursion (λ x. IsIdIn book.now x.pred) (map item_of placed.now) }
     requires hashes { hashes ≡ chosen.now.hashes }
-    ensures columns { IfOk result (λ s. AreColumnsFor greedy chosen.now (iri_in book.now) (map item_of placed.now) s.columns) }
-    ensures side { IfOk result (λ s. s ≡ bulk_side s.columns (iri_in book.now) (map item_of placed.now)) }
+    ensures columns { IfOk result (λ s. AreColumnsFor greedy chosen.now (text_of_id book.now) (map item_of placed.now) s.columns) }
+    ensures side { IfOk result (λ s. s ≡ bulk_side s.columns (text_of_id book.now) (map item_of placed.now)) }
     ensures some { IfOk result (λ s. HaveCandidates s.columns) }
 {
     let columns = columns_for(alloc, placed, book, chosen, hashes, greedy)?;
@@ -74,8 +74,8 @@ pub(crate) fn sides_of(
     pieces: u32,
 ) -> Result<TripleSides, AllocError>
     requires stored { AreStored book.now (map item_of placed.now) }
-    ensures layout { IfOk result (λ s. IsLayoutFor choice.now book.now (map item_of placed.now) (layout_by s)) }
-    ensures sides { IfOk result (λ s. s ≡ bulk_sides (layout_by s) book.now (map item_of placed.now)) }
+    ensures layout { IfOk result (λ s. IsLayoutFor choice.now book.now (map item_of placed.now) (layout_of (store_of book.now s))) }
+    ensures sides { IfOk result (λ s. s ≡ bulk_sides (layout_of (store_of book.now s)) book.now (map item_of placed.now)) }
     ensures store { IfOk result (λ s. IsStore (store_of book.now s)) }
     ensures triples { IfOk result (λ s. SameBag (stored_triples (store_of book.now s)) (map (triple_by book.now) (map item_of placed.now))) }
     ensures in_order { IfOk result AreInOrder }

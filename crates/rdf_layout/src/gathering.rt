@@ -11,16 +11,13 @@ ghost use Rattle.rdf_layout.specs.Bulk.{refusal_from};
 ghost use Rattle.rdf_layout.specs.Gathered.{AreItemsOf, Gathers, HasSpace, with_found};
 
 use crate::item_set::ItemSet;
-use crate::refusal::{StoreRefusal, of_book};
+use crate::refusal::{MOST_TRIPLES, StoreRefusal, of_book};
 use rdf_terms::Triple;
 use shredder::Placed;
 use std::alloc::Global;
 use term_book::TermBook;
 use triple_ids::{has_forms, note};
 use triple_sides::IdTriple;
-
-/// How many triples a store holds at most.
-const MOST_TRIPLES: usize = 1_000_000;
 
 /// The item of a triple on the direct side.
 fn placed_of(ids: IdTriple) -> Placed
@@ -49,7 +46,7 @@ fn gather(
     ensures form { IsTriple t.now }
 {
     has_forms(t);
-    let full = found.len() >= MOST_TRIPLES;
+    let full = found.count() >= MOST_TRIPLES;
     let ids = match note(book, alloc, t) {
         Ok(ids) => ids,
         Err(refusal) => return Err(of_book(refusal, full)),

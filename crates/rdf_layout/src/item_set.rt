@@ -53,10 +53,10 @@ impl ItemSet {
     }
 
     /// How many items there are.
-    pub(crate) fn len(&self) -> usize
+    pub(crate) fn count(&self) -> u64
         ensures { result ≡ length self.now }
     {
-        self.placed.len()
+        self.placed.len() as u64
     }
 
     pub(crate) fn as_slice(&self) -> &[Placed]

@@ -7,6 +7,9 @@ use primary_rows::SideRefusal;
 use std::alloc::AllocError;
 use term_book::BookRefusal;
 
+/// How many triples a store holds at most.
+pub(crate) const MOST_TRIPLES: u64 = 1_000_000;
+
 #[derive(Clone, Copy, Debug, PartialEq, Eq)]
 pub enum StoreRefusal {
     /// As many triples are stored as may be, and this one isn't among them.

@@ -8,7 +8,7 @@ ghost use Rattle.standing_meaning.specs.Stored.{IsStore};
 ghost use Rattle.standing_meaning.specs.Changes.{store_of, is_stored, stored_in, taken_out, IsRefused};
 ghost use Rattle.rdf_layout.specs.Refused.{Refuses, HasRoom};
 
-use crate::refusal::{StoreRefusal, of_book};
+use crate::refusal::{MOST_TRIPLES, StoreRefusal, of_book};
 use primary_rows::Took;
 use rdf_terms::{Text, Triple};
 use std::alloc::Global;
@@ -16,9 +16,6 @@ use term_book::TermBook;
 use triple_ids::{find, has_forms, note};
 use triple_sides::TripleSides;
 use value_lists::Put;
-
-/// How many triples a store holds at most.
-const MOST_TRIPLES: u64 = 1_000_000;
 
 /// The IRI of a triple's predicate.
 fn predicate_text(t: &Triple) -> &Text

@@ -18,6 +18,7 @@ use Rattle.rdf_layout.specs.Bulk as loading
 use Rattle.plain_triples.specs.declared.refusal.LoadRefusal.{LoadRefusal}
 use Rattle.plain_triples.specs.declared.refusal.LoadRefusal.TheVariants as load
 use Rattle.plain_triples.specs.Refusals.{Refuses}
+use Rattle.stats_work.specs.Refused.{load_refusal_of}
 
 -- the limit that a refusal names
 abbrev which_for : Option StoreRefusal → Option Which
@@ -75,7 +76,7 @@ not-lists-by false false true refusal h e = cc
 not-lists-by false false false refusal h e = h e
 
 -- a bulk is refused for triples or terms alone
-pub not-lists : (seen later : List RdfTriple) → loading.refusal_from seen later ≡ Some Lists → ⊥
+not-lists : (seen later : List RdfTriple) → loading.refusal_from seen later ≡ Some Lists → ⊥
 not-lists seen [] e = cc
 not-lists seen (t ∷ later) e =
     not-lists-by (list_any (same_triple t) (each_once seen)) (nat_le 1000000 (length (each_once seen))) (nat_lt 4000000 (length (with_terms (terms_of seen) t)))
@@ -84,8 +85,16 @@ not-lists seen (t ∷ later) e =
 pub bulk-within : (triples : List RdfTriple) → loading.refusal_from [] triples ≡ None → passed_limit (map Add triples) ≡ None
 bulk-within triples e = passed-is [] triples ∙ ap which_for e
 
-pub bulk-triples : (triples : List RdfTriple) → loading.refusal_from [] triples ≡ Some Triples → passed_limit (map Add triples) ≡ Some which.Triples
-bulk-triples triples e = passed-is [] triples ∙ ap which_for e
+pub bulk-no-lists : (triples : List RdfTriple) (e : StoreRefusal) → (e ≢ NoMemory → loading.refusal_from [] triples ≡ Some e) → e ≢ Lists
+bulk-no-lists triples e h l = not-lists [] triples (h (λ m. cc) ∙ ap (λ (r : StoreRefusal). Some r) l)
 
-pub bulk-terms : (triples : List RdfTriple) → loading.refusal_from [] triples ≡ Some Terms → passed_limit (map Add triples) ≡ Some which.Terms
-bulk-terms triples e = passed-is [] triples ∙ ap which_for e
+-- the limit that the refusal of a bulk names is passed
+pub bulk-passes : (triples : List RdfTriple) (e : StoreRefusal) (r : LoadRefusal) → (e ≢ NoMemory → loading.refusal_from [] triples ≡ Some e) → load_refusal_of e ≡ Some r → Refuses r (passed_limit (map Add triples))
+bulk-passes triples NoMemory r h k = let s : load.NoMemory ≡ r = cc in subst (λ (x : LoadRefusal). Refuses x (passed_limit (map Add triples))) s tt
+bulk-passes triples Triples r h k =
+    let s : load.Limit which.Triples ≡ r = cc in
+    subst (λ (x : LoadRefusal). Refuses x (passed_limit (map Add triples))) s (passed-is [] triples ∙ ap which_for (h (λ e. cc)))
+bulk-passes triples Terms r h k =
+    let s : load.Limit which.Terms ≡ r = cc in
+    subst (λ (x : LoadRefusal). Refuses x (passed_limit (map Add triples))) s (passed-is [] triples ∙ ap which_for (h (λ e. cc)))
+bulk-passes triples Lists r h k = cc

@@ -1,11 +1,10 @@
 -- Changes that are made one after another.
-use Rattle.std.proofs.Common.{◌≡◌, ◌≢◌, ◌⊎◌, inl, inr, ℕ, ◌+◌, ◌≤◌, ◌<◌, ◌^◌, nat_lt, nat_le, Bool, true, false, if◌then◌else◌, List, [], ◌∷◌, ◌++◌, map, fold, length, length-append, append_assoc, take, drop, get_or, Option, Some, None, refl, sym, ap, ◌∙◌, arith, subst}
-use Rattle.std.specs.List.{list_any}
+use Rattle.std.proofs.Common.{◌≡◌, ◌≢◌, inl, inr, ℕ, ◌+◌, ◌≤◌, ◌<◌, ◌^◌, nat_lt, Bool, true, false, if◌then◌else◌, List, [], ◌∷◌, ◌++◌, map, fold, length, append_assoc, take, drop, get_or, Option, Some, None, refl, sym, ap, ◌∙◌, arith, subst}
 use Rattle.std.proofs.lemmas.List.{append-nil, take_more, drop_more, length-take-le}
 use Rattle.std.proofs.lemmas.List.Sums.{fold-append}
 use Rattle.bags.specs.Bag.{SameBag}
 use Rattle.bags.specs.BagLaws.{same-refl, same-sym, same-trans, same-append, same-length, same-any, same-rest}
-use Rattle.rdf_meaning.specs.Terms.{RdfTerm, RdfTriple, same_triple}
+use Rattle.rdf_meaning.specs.Terms.{RdfTriple, same_triple}
 use Rattle.line_meaning.specs.declared.change.Change.{Change}
 use Rattle.line_meaning.specs.declared.change.Change.TheVariants.{Add, Delete}
 use Rattle.line_meaning.specs.Present.{is_present, present}
@@ -17,10 +16,13 @@ use Rattle.standing_meaning.specs.Stored.{StoreOf, layout_of, stored_triples}
 use Rattle.standing_meaning.specs.Changes.{with_terms, item_in, is_stored, stored_in}
 use Rattle.run_meaning.specs.declared.which.Which.{Which}
 use Rattle.run_meaning.specs.declared.which.Which.TheVariants as which
-use Rattle.run_meaning.specs.Limits.{with_needed, terms_needed, passed_at, passed_from, passed_limit, or_later}
+use Rattle.run_meaning.specs.Limits.{terms_needed, passed_at, passed_from, passed_limit, or_later}
 use Rattle.value_lists.specs.declared.lists.Put.{Put}
-use Rattle.value_lists.specs.declared.lists.Put.TheVariants.{Added, There}
+use Rattle.value_lists.specs.declared.lists.Put.TheVariants.{Added}
 use Rattle.value_lists.specs.Answers.{put_of}
+use Rattle.rdf_layout.specs.declared.refusal.StoreRefusal.{StoreRefusal}
+use Rattle.rdf_layout.specs.declared.refusal.StoreRefusal.TheVariants.{Triples, Terms, Lists, NoMemory}
+use Rattle.rdf_layout.specs.Refused as refused
 use Rattle.rdf_layout.specs.Refused.{HasRoom, PassesLists}
 use Rattle.bulk_laws.specs.BulkStore.{bulk_store}
 use Rattle.placed_meaning.specs.Placed.{changed_in}
@@ -31,6 +33,7 @@ use Rattle.plain_triples.specs.declared.refusal.LoadRefusal.{LoadRefusal}
 use Rattle.plain_triples.specs.declared.refusal.LoadRefusal.TheVariants as load
 use Rattle.plain_triples.specs.Refusals.{Refuses}
 use Rattle.stats_work.specs.Limited.{LeavesIds, HoldsAfter, limit_at}
+use Rattle.stats_work.specs.Refused.{load_refusal_of}
 
 -- ---- one triple is put in
 
@@ -54,17 +57,17 @@ added-within s t p answer room = by (is_stored s t) refl answer
         let y : nat_lt 4000000 (length (with_terms s.terms t)) ≡ false = lt-false 4000000 (length (with_terms s.terms t)) fits in
         rw (e, x, y) refl
 
-pub full-passes : (s : StoreOf) (t : RdfTriple) → is_stored s t ≡ false → 1000000 ≤ length (stored_triples s) → limit_at s (Add t) ≡ Some which.Triples
+full-passes : (s : StoreOf) (t : RdfTriple) → is_stored s t ≡ false → 1000000 ≤ length (stored_triples s) → limit_at s (Add t) ≡ Some which.Triples
 full-passes s t e l = let x : nat_lt 1000000 (length (stored_triples s) + 1) ≡ true = lt-true 1000000 (length (stored_triples s) + 1) (omega arith) in rw (e, x) refl
 
-pub long-passes : (s : StoreOf) (t : RdfTriple) → is_stored s t ≡ false → length (stored_triples s) < 1000000 → 4000000 < length (with_terms s.terms t) → limit_at s (Add t) ≡ Some which.Terms
+long-passes : (s : StoreOf) (t : RdfTriple) → is_stored s t ≡ false → length (stored_triples s) < 1000000 → 4000000 < length (with_terms s.terms t) → limit_at s (Add t) ≡ Some which.Terms
 long-passes s t e few l =
     let x : nat_lt 1000000 (length (stored_triples s) + 1) ≡ false = lt-false 1000000 (length (stored_triples s) + 1) (omega arith) in
     let y : nat_lt 4000000 (length (with_terms s.terms t)) ≡ true = lt-true 4000000 (length (with_terms s.terms t)) l in
     rw (e, x, y) refl
 
 -- list ids don't run out
-pub never-lists : (s : StoreOf) (t : RdfTriple) → LeavesIds s → PassesLists s t → ⊥
+never-lists : (s : StoreOf) (t : RdfTriple) → LeavesIds s → PassesLists s t → ⊥
 never-lists s t h (inl e) =
     let p : (stored_in s t).direct.state.next ≤ s.direct.state.next + 1 = (next-placed s.direct.columns.count (candidates_of s.direct.columns t.p.text) (item_in (with_terms s.terms t) t) s.direct.state).1 in
     let l = h.direct in
@@ -73,6 +76,19 @@ never-lists s t h (inr e) =
     let p : (stored_in s t).reverse.state.next ≤ s.reverse.state.next + 1 = (next-placed s.reverse.columns.count (candidates_of s.reverse.columns t.p.text) (turned (item_in (with_terms s.terms t) t)) s.reverse.state).1 in
     let l = h.reverse in
     omega arith
+
+pub added-no-lists : (s : StoreOf) (t : RdfTriple) (e : StoreRefusal) → LeavesIds s → refused.Refuses e s t → e ≢ Lists
+added-no-lists s t NoMemory h r l = cc
+added-no-lists s t Triples h r l = cc
+added-no-lists s t Terms h r l = cc
+added-no-lists s t Lists h r l = never-lists s t h r.3
+
+-- the limit that the refusal of a triple names is passed
+pub added-passes : (s : StoreOf) (t : RdfTriple) (e : StoreRefusal) (r : LoadRefusal) → refused.Refuses e s t → load_refusal_of e ≡ Some r → Refuses r (limit_at s (Add t))
+added-passes s t NoMemory r h k = let b : load.NoMemory ≡ r = cc in subst (λ (x : LoadRefusal). Refuses x (limit_at s (Add t))) b tt
+added-passes s t Triples r h k = let b : load.Limit which.Triples ≡ r = cc in subst (λ (x : LoadRefusal). Refuses x (limit_at s (Add t))) b (full-passes s t h.0 h.1)
+added-passes s t Terms r h k = let b : load.Limit which.Terms ≡ r = cc in subst (λ (x : LoadRefusal). Refuses x (limit_at s (Add t))) b (long-passes s t h.0 h.1 h.2)
+added-passes s t Lists r h k = cc
 
 -- ---- one change more
 

@@ -1,3 +1,4 @@
 pub mod Limited
 pub mod Cutting
 pub mod Counted
+pub mod Refused

@@ -7,11 +7,11 @@ ghost use Rattle.placed_meaning.specs.Placed.{changed_in};
 ghost use Rattle.plain_triples.specs.Refusals.{Refuses};
 ghost use Rattle.stats_work.specs.Limited.{LeavesIds, HoldsAfter, limit_at};
 
+use crate::refusal::load_refusal;
 use line_meaning::Change;
 use plain_triples::LoadRefusal;
-use rdf_layout::{Store, StoreRefusal};
+use rdf_layout::Store;
 use rdf_terms::Triple;
-use run_meaning::Which;
 use std::alloc::Global;
 
 // Puts a triple in. Where list ids are left on both sides, it needs none that there isn't.
@@ -24,10 +24,7 @@ fn add(store: &mut Store, alloc: Global, t: &Triple) -> Result<(), LoadRefusal>
 {
     match store.insert(alloc, t) {
         Ok(_) => Ok(()),
-        Err(StoreRefusal::NoMemory) => Err(LoadRefusal::NoMemory),
-        Err(StoreRefusal::Triples) => Err(LoadRefusal::Limit(Which::Triples)),
-        Err(StoreRefusal::Terms) => Err(LoadRefusal::Limit(Which::Terms)),
-        Err(StoreRefusal::Lists) => unreachable!(),
+        Err(refusal) => Err(load_refusal(refusal)),
     }
 }
 

@@ -5,6 +5,7 @@ mod changing;
 mod choosing;
 mod cut;
 mod placing;
+mod refusal;
 mod text;
 mod work;
 

@@ -12,11 +12,11 @@ ghost use Rattle.columns_meaning.specs.Layouts.{IsLayoutFor};
 ghost use Rattle.plain_triples.specs.Refusals.{Refuses};
 
 use crate::changing::make;
+use crate::refusal::load_refusal;
 use line_meaning::Change;
 use plain_triples::LoadRefusal;
-use rdf_layout::{LayoutChoice, Store, StoreRefusal};
+use rdf_layout::{LayoutChoice, Store};
 use rdf_terms::Triple;
-use run_meaning::Which;
 use std::alloc::Global;
 
 // Loads the bulk at once. A bulk never runs out of list ids: it has few triples.
@@ -34,10 +34,7 @@ fn load_bulk(
 {
     match Store::load(alloc, bulk, choice, pieces) {
         Ok(store) => Ok(store),
-        Err(StoreRefusal::NoMemory) => Err(LoadRefusal::NoMemory),
-        Err(StoreRefusal::Triples) => Err(LoadRefusal::Limit(Which::Triples)),
-        Err(StoreRefusal::Terms) => Err(LoadRefusal::Limit(Which::Terms)),
-        Err(StoreRefusal::Lists) => unreachable!(),
+        Err(refusal) => Err(load_refusal(refusal)),
     }
 }
 

@@ -1,9 +1,9 @@
-use Rattle.std.proofs.Common.{◌≡◌, ◌∙◌, Bool, map, List, sym, ap, subst}
+use Rattle.std.proofs.Common.{◌≡◌, ◌∙◌, Bool, map, List, sym, subst}
 use Rattle.std.specs.List.{AllByRecursion}
 use Rattle.layout_meaning.specs.Side.{Item}
-use Rattle.standing_meaning.specs.Stored.{IsIdIn, IsStore, triple_by, stored_triples}
+use Rattle.standing_meaning.specs.Stored.{IsIdIn, IsStore, layout_of, triple_by, stored_triples, text_of_id}
 use Rattle.shredder.specs.declared.bulk.Placed.{Placed}
-use Rattle.shredder.specs.Items.{item_of, iri_in}
+use Rattle.shredder.specs.Items.{item_of}
 use Rattle.columns_meaning.specs.BulkColours.{AreColumnsFor}
 use Rattle.rdf_layout.specs.OneRow.{ColouredHaveOneRow}
 use Rattle.rdf_layout.proofs.OneRow.{one-row}
@@ -12,7 +12,6 @@ use Rattle.list_order.specs.InOrder.{AreInOrder}
 use Rattle.standing_meaning.specs.Sides.{SidesOf}
 use Rattle.standing_meaning.specs.Changes.{store_of}
 use Rattle.bulk_laws.specs.BulkStore.{bulk_sides}
-use Rattle.rdf_layout.specs.Gathered.{layout_by}
 use Rattle.columns_meaning.specs.Layouts.{IsLayoutFor}
 use Rattle.rdf_layout.proofs.Found.{direct-ids, reverse-ids, made-sides, made-layout}
 use Rattle.rdf_layout.proofs.bulk.sides_of.Goals as goal
@@ -31,13 +30,13 @@ of-requires c =
 
 pub returns-clause-layout : goal.returns-clause-layout
 returns-clause-layout c =
-    subst (λ (s : SidesOf). IsLayoutFor c.args.choice.now c.args.book.now (map item_of c.args.placed.now) (layout_by s)) (sym c.of.ensures)
+    subst (λ (s : SidesOf). IsLayoutFor c.args.choice.now c.args.book.now (map item_of c.args.placed.now) (layout_of (store_of c.args.book.now s))) (sym c.of.ensures)
     (made-layout c.args.choice.now c.args.book.now c.args.placed.now c.as_slice.result.now c.in_ok-direct.direct c.in_ok-reverse.reverse c.is_greedy-greedy.result c.direct.result.now c.reverse.result.now
     c.is_greedy-greedy.ensures c.direct.ensures c.reverse.ensures (c.as_slice.ensures.value ∙ c.in_ok-placed.ensures) c.in_ok-direct.ensures.columns c.in_ok-reverse.ensures.columns)
 
 pub returns-clause-sides : goal.returns-clause-sides
 returns-clause-sides c =
-    subst (λ (s : SidesOf). s ≡ bulk_sides (layout_by s) c.args.book.now (map item_of c.args.placed.now)) (sym c.of.ensures)
+    subst (λ (s : SidesOf). s ≡ bulk_sides (layout_of (store_of c.args.book.now s)) c.args.book.now (map item_of c.args.placed.now)) (sym c.of.ensures)
     (made-sides c.args.book.now c.args.placed.now c.as_slice.result.now c.in_ok-direct.direct c.in_ok-reverse.reverse c.bulks_are_stores.ensures.store c.bulks_are_stores.ensures.triples c.bulks_are_stores.ensures.in_order
     c.requires.stored (c.as_slice.ensures.value ∙ c.in_ok-placed.ensures) c.in_ok-direct.ensures.side c.in_ok-reverse.ensures.side c.in_ok-direct.ensures.some c.in_ok-reverse.ensures.some).made
 
@@ -64,5 +63,5 @@ returns-clause-one_row c = λ g.
     subst (λ (s : SidesOf). ColouredHaveOneRow (store_of c.args.book.now s)) (sym c.of.ensures)
     (one-row c.coloured_entities_have_one_row.ensures c.args.book.now c.direct.result.now c.reverse.result.now c.args.placed.now c.as_slice.result.now c.in_ok-direct.direct c.in_ok-reverse.reverse c.requires.stored
     (c.as_slice.ensures.value ∙ c.in_ok-placed.ensures) c.in_ok-direct.ensures.side c.in_ok-reverse.ensures.side c.in_ok-direct.ensures.some c.in_ok-reverse.ensures.some
-    (subst (λ (b : Bool). AreColumnsFor b c.direct.result.now (iri_in c.args.book.now) (map item_of c.args.placed.now) c.in_ok-direct.direct.columns) (c.is_greedy-greedy.ensures ∙ g) c.in_ok-direct.ensures.columns)
-    (subst (λ (b : Bool). AreColumnsFor b c.reverse.result.now (iri_in c.args.book.now) (map item_of c.as_slice.result.now) c.in_ok-reverse.reverse.columns) (c.is_greedy-greedy.ensures ∙ g) c.in_ok-reverse.ensures.columns))
+    (subst (λ (b : Bool). AreColumnsFor b c.direct.result.now (text_of_id c.args.book.now) (map item_of c.args.placed.now) c.in_ok-direct.direct.columns) (c.is_greedy-greedy.ensures ∙ g) c.in_ok-direct.ensures.columns)
+    (subst (λ (b : Bool). AreColumnsFor b c.reverse.result.now (text_of_id c.args.book.now) (map item_of c.as_slice.result.now) c.in_ok-reverse.reverse.columns) (c.is_greedy-greedy.ensures ∙ g) c.in_ok-reverse.ensures.columns))

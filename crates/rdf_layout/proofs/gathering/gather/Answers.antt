@@ -5,7 +5,7 @@ use Rattle.rdf_layout.proofs.gathering.gather.Goals as goal
 
 pub returns-in-Err-clause-refused : goal.returns-in-Err-clause-refused
 returns-in-Err-clause-refused c =
-    rw c.of_book.ensures (refused-terms c.args.t.now c.args.book.now c.args.found.now c.in-Err.refusal (nat_le 1000000 c.len-full.result) c.requires.few (λ e. c.note.ensures.full (c.in-Err.is ∙ ap (λ r. Err r) e)) (ap (nat_le 1000000) c.len-full.ensures))
+    rw c.of_book.ensures (refused-terms c.args.t.now c.args.book.now c.args.found.now c.in-Err.refusal (nat_le 1000000 c.count-full.result) c.requires.few (λ e. c.note.ensures.full (c.in-Err.is ∙ ap (λ r. Err r) e)) (ap (nat_le 1000000) c.count-full.ensures))
 
 pub returns-then-has-clause-found : goal.returns-then-has-clause-found
 returns-then-has-clause-found c =
@@ -18,7 +18,7 @@ returns-then-has-clause-room c =
 pub returns-then-full-clause-refused : goal.returns-then-full-clause-refused
 returns-then-full-clause-refused c =
     refused-full c.args.t.now c.args.book.now c.note.new.book c.args.found.now c.in-Ok.ids (item_of c.placed_of-item.result) c.has_forms.ensures c.in-Ok.ensures.book c.in-Ok.ensures.ids c.placed_of-item.ensures (sym c.has.ensures ∙ c.if-has.false)
-    (let l : 1000000 ≤ c.len-full.result = c.if-full.true in omega (arith, c.len-full.ensures))
+    (let l : 1000000 ≤ c.count-full.result = c.if-full.true in omega (arith, c.count-full.ensures))
 
 pub returns-clause-found : goal.returns-clause-found
 returns-clause-found c =
@@ -26,4 +26,4 @@ returns-clause-found c =
 
 pub returns-clause-room : goal.returns-clause-room
 returns-clause-room c =
-    space-new c.args.t.now c.args.book.now c.args.found.now (let l : c.len-full.result < 1000000 = c.if-full.false in omega (arith, c.len-full.ensures)) c.in-Ok.ensures.room
+    space-new c.args.t.now c.args.book.now c.args.found.now (let l : c.count-full.result < 1000000 = c.if-full.false in omega (arith, c.count-full.ensures)) c.in-Ok.ensures.room

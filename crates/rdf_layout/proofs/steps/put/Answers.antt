@@ -1,11 +1,10 @@
-use Rattle.std.proofs.Common.{◌≡◌, ◌⊎◌, inl, inr, ℕ, ◌+◌, ◌≤◌, ◌^◌, Bool, true, false, List, Ok, Err, nat_le, refl, sym, ap, ◌∙◌, subst}
-use Rattle.rdf_meaning.specs.Terms.{RdfTerm, RdfTriple}
+use Rattle.std.proofs.Common.{◌≡◌, ◌⊎◌, inr, ℕ, ◌+◌, ◌≤◌, ◌^◌, true, false, List, Ok, Err, nat_le, refl, sym, ap, ◌∙◌, subst}
 use Rattle.value_lists.specs.declared.lists.Put.{Put}
-use Rattle.value_lists.specs.declared.lists.Put.TheVariants.{Added, There}
+use Rattle.value_lists.specs.declared.lists.Put.TheVariants.{Added}
 use Rattle.value_lists.specs.Answers.{put_of}
 use Rattle.standing_meaning.specs.Sides.{SidesOf, both_placed}
 use Rattle.standing_meaning.specs.Stored.{StoreOf, IsStore, sides_of}
-use Rattle.standing_meaning.specs.Changes.{store_of, is_stored, stored_in, with_terms, item_in}
+use Rattle.standing_meaning.specs.Changes.{store_of, is_stored}
 use Rattle.standing_meaning.proofs.Steps.{before-same}
 use Rattle.standing_meaning.proofs.Changed.{store-in, store-refused}
 use Rattle.triple_sides.specs.Items.{item_of}

@@ -1,5 +1,5 @@
 -- The sorted matches of a pattern are the ordered answer.
-use Rattle.std.proofs.Common.{◌≡◌, ◌⊎◌, ℕ, Bool, true, false, cond, List, [], ◌∷◌, ◌++◌, map, filter, refl, sym, ap, ◌∙◌, inl, inr}
+use Rattle.std.proofs.Common.{◌≡◌, ◌⊎◌, ℕ, Bool, true, false, List, [], ◌∷◌, map, filter, refl, sym, ap, ◌∙◌, inl, inr}
 use Rattle.std.specs.List.{flat_map}
 use Rattle.std.proofs.lemmas.Bool.{cases_Bool}
 use Rattle.std.specs.declared.cmp.Ordering.{Ordering}
@@ -14,9 +14,9 @@ use Rattle.std.proofs.lemmas.List.Sorted.{ranks_by}
 use Rattle.bags.specs.StableLaws.{sort-stable}
 use Rattle.bags.specs.ItemsLaws.{items_total}
 use Rattle.rdf_meaning.specs.OrderLaws.{place_order_total}
-use Rattle.bags.specs.Sort.{sort, by_items, turned}
+use Rattle.bags.specs.Sort.{sort, turned}
 use Rattle.bags.specs.SortLaws.{map-sort}
-use Rattle.rdf_meaning.specs.Terms.{RdfTerm, RdfTriple}
+use Rattle.rdf_meaning.specs.Terms.{RdfTriple}
 use Rattle.rdf_meaning.specs.TermOrder.{place_order}
 use Rattle.line_meaning.specs.declared.change.Change.{Change}
 use Rattle.query_meaning.specs.AnswerText.{answer_text}
@@ -25,7 +25,7 @@ use Rattle.query_meaning.specs.declared.modifiers.Key.{Key}
 use Rattle.query_meaning.specs.declared.pattern.Pattern.{Pattern}
 use Rattle.query_meaning.specs.Mapping.{Mapping}
 use Rattle.query_meaning.specs.Width.{pattern_in_width}
-use Rattle.query_meaning.specs.Leaf.{leaf, matches, bound, instance_is}
+use Rattle.query_meaning.specs.Leaf.{leaf, matches, bound}
 use Rattle.query_meaning.specs.Answer.{Row, row_of, row_order, past, all_keys, ordered_answer}
 use Rattle.algebra_laws.specs.OrderedAnswer.{order-same}
 use Rattle.algebra_laws.specs.OneLeaf.{leaf_one}

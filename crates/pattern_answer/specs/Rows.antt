@@ -1,9 +1,9 @@
 -- The rows of an answer to one pattern, of which some variables are shown, triple by triple.
-use Rattle.std.specs.Prelude.{ℕ, Bool, false, List, [], ◌∷◌, map, Option, None, filter, slice_get, unwrap_or}
+use Rattle.std.specs.Prelude.{ℕ, Bool, false, List, [], ◌∷◌, map, None, filter, slice_get, unwrap_or}
 use Rattle.std.specs.declared.cmp.Ordering.{Ordering}
 use Rattle.std.specs.Ordering.{on}
 use Rattle.bags.specs.Sort.{sort, by_items}
-use Rattle.rdf_meaning.specs.Terms.{RdfTerm, RdfTriple}
+use Rattle.rdf_meaning.specs.Terms.{RdfTriple}
 use Rattle.rdf_meaning.specs.TermOrder.{place_order}
 use Rattle.query_meaning.specs.declared.pattern.Pattern.{Pattern}
 use Rattle.query_meaning.specs.Leaf.{bound, instance_is, leaf}

@@ -1,7 +1,7 @@
 -- A query that is answered is its one pattern, with nothing asked but which variables are shown.
 use Rattle.std.proofs.Common.{◌≡◌, ℕ, Bool, true, false, not, ◌&&◌, List, [], ◌∷◌, map, refl, sym, ap, ◌∙◌}
 use Rattle.std.specs.Prelude.{Option, Some, None, is_some, is_none, ◌==◌, length, slice_index_or}
-use Rattle.std.proofs.lemmas.Bool.{and_parts, eqb-true, false≢true}
+use Rattle.std.proofs.lemmas.Bool.{and_parts, eqb-true}
 use Rattle.std.proofs.lemmas.Option.{unwrap_or-slice_get}
 use Rattle.bags.specs.Bag.{SameBag}
 use Rattle.rdf_meaning.specs.Terms.{RdfTriple, is_empty}
@@ -85,11 +85,6 @@ plain_is m e =
     ∙ ap (λ (x : ℕ). modifiers m.shown false [] x m.most) skip ∙ ap (λ (x : Option ℕ). modifiers m.shown false [] 0 x) most
 
 -- ---- the pattern of a query that is answered
-
-pub never_none : (q : Query) → is_answered q ≡ true → only_pattern q.tree ≡ None → ⊥
-never_none q e n =
-    let some : is_some (only_pattern q.tree) ≡ true = (and_parts (is_some (only_pattern q.tree)) (is_plain q.modifiers) e).0 in
-    false≢true (sym (ap is_some n) ∙ some)
 
 same_answer : (q : Query) (p : Pattern) (g : List RdfTriple) → is_answered q ≡ true → only_pattern q.tree ≡ Some p → answer_of q g ≡ ordered_answer (showing q.modifiers.shown) (leaf (p ∷ []) g)
 same_answer q p g e o =

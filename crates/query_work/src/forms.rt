@@ -1,6 +1,6 @@
 //! Which queries are answered.
 
-ghost use Rattle.std.specs.Prelude.{◌≡◌, true, Some, None, MatchOption};
+ghost use Rattle.std.specs.Prelude.{◌≡◌, true, false, Some, None, IfSome, MatchOption};
 ghost use Rattle.query_meaning.specs.declared.tree.Tree.TheOpen.{Leaf};
 ghost use Rattle.outcome_meaning.specs.QueryFile.{pattern_of_leaf, only_pattern, is_plain, is_answered};
 
@@ -37,24 +37,19 @@ fn is_plain(modifiers: &Modifiers) -> bool
         && modifiers.most.is_none()
 }
 
-/// A query of one pattern alone is answered.
-pub(crate) fn is_answered(query: &Query) -> bool
-    ensures { result ≡ is_answered query.now }
+/// The pattern of a query that is answered: one of one pattern alone, where nothing is asked but which variables are shown.
+pub(crate) fn asked_pattern(query: &Query) -> Option<&Pattern>
+    ensures answered { MatchOption result (is_answered query.now ≡ false) (λ p. is_answered query.now ≡ true) }
+    ensures pattern { IfSome result (λ p. only_pattern query.now.tree ≡ Some p.now) }
 {
     match only_pattern(&query.tree) {
-        Some(_) => is_plain(&query.modifiers),
-        None => false,
-    }
-}
-
-/// The pattern of a query that is answered.
-#[tactic(auto, using(crate::proofs::OnePattern::never_none))]
-pub(crate) fn asked_pattern(query: &Query) -> &Pattern
-    requires { is_answered query.now ≡ true }
-    ensures { only_pattern query.now.tree ≡ Some result.now }
-{
-    match only_pattern(&query.tree) {
-        Some(pattern) => pattern,
-        None => unreachable!(),
+        Some(pattern) => {
+            if is_plain(&query.modifiers) {
+                Some(pattern)
+            } else {
+                None
+            }
+        }
+        None => None,
     }
 }

@@ -1,4 +1,4 @@
-use Rattle.std.proofs.Common.{◌≡◌, ◌∙◌, List, ap, filter, rules}
+use Rattle.std.proofs.Common.{◌∙◌, List, ap, rules}
 use Rattle.std.specs.Ordering.{on}
 use Rattle.bags.specs.Sort.{sort}
 use Rattle.rdf_meaning.specs.Terms.{RdfTriple}

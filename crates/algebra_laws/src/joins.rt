@@ -1,6 +1,6 @@
 //! Laws of joins.
 
-ghost use Rattle.std.specs.Prelude.{◌≡◌, Bool, true, List, [], ◌∷◌, ◌++◌, map};
+ghost use Rattle.std.specs.Prelude.{Bool, true, List, ◌++◌, map};
 ghost use Rattle.std.specs.List.{filter, AllByRecursion};
 ghost use Rattle.bags.specs.Bag.{SameBag};
 ghost use Rattle.query_meaning.specs.Mapping.{Mapping};

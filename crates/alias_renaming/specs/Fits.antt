@@ -1,8 +1,7 @@
 -- The parts of what can be renamed can be renamed.
-use Rattle.std.specs.Prelude.{◌≡◌, ◌<◌, ℕ, zero, suc, true, List, [], ◌∷◌, ◌++◌, map, Option, Some, None, Contains}
-use Rattle.std.proofs.Common.{sym, ap, ◌∙◌, subst, arith}
-use Rattle.std.specs.List.{flat_map, list_any}
-use Rattle.std.specs.Str.{bytes_eq}
+use Rattle.std.specs.Prelude.{◌≡◌, zero, suc, List, [], ◌∷◌, ◌++◌, map, Option, Some, Contains}
+use Rattle.std.proofs.Common.{sym, subst, arith}
+use Rattle.std.specs.List.{flat_map}
 use Rattle.sql_meaning.specs.Levels.{fold_branch}
 use Rattle.sql_meaning.specs.declared.expression.SqlExpr.{SqlExpr, out-SqlExpr, fold_out-SqlExpr, map-SqlExpr}
 use Rattle.sql_meaning.specs.declared.expression.SqlExpr.TheOpen as o

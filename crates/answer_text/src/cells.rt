@@ -1,10 +1,10 @@
 //! The cells of rows.
 #![tactic(auto, using(rel_cells::specs::Fronts::kept_same, rel_cells::specs::Fronts::kept_append, rel_cells::specs::Fronts::kept_on, crate::specs::Tabs::left_at_first))]
 
-ghost use Rattle.std.specs.Prelude.{◌≡◌, ◌++◌, map, OnOk, OnErr};
+ghost use Rattle.std.specs.Prelude.{◌≡◌, ◌++◌, OnOk, OnErr};
 ghost use Rattle.std.specs.List.{flat_map};
 ghost use Rattle.rel_cells.specs.Fronts.{KeepsFront};
-ghost use Rattle.table_meaning.specs.CellText.{cell_text, cells_text, ended, row_line, tabbed};
+ghost use Rattle.table_meaning.specs.CellText.{cell_text, cells_text, row_line, tabbed};
 ghost use Rattle.table_meaning.specs.Schemas.{column_names};
 ghost use Rattle.answer_text.specs.Tabs.{row_text};
 

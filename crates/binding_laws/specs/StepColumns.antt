@@ -1,8 +1,7 @@
 -- The columns of the compiler's steps, and of the table of terms.
-use Rattle.std.specs.Prelude.{◌≡◌, ℕ, Bool, true, false, if◌then◌else◌, List, [], ◌∷◌, map, Option}
+use Rattle.std.specs.Prelude.{◌≡◌, ℕ, true, false, if◌then◌else◌, List, [], ◌∷◌, map}
 use Rattle.std.specs.Str.{bytes_eq}
 use Rattle.table_meaning.specs.declared.kind.Kind.TheVariants as kind
-use Rattle.table_meaning.specs.declared.kind.Kind.{Kind}
 use Rattle.table_meaning.specs.declared.schema.Column.{Column}
 use Rattle.sql_rows_meaning.specs.Scopes.{Scope, kind_under}
 use Rattle.step_laws.specs.Carried.{Name, column, one}

@@ -1,8 +1,8 @@
 -- The SELECTs that join terms bind.
-use Rattle.std.proofs.Common.{◌≡◌, ℕ, ◌⊎◌, Bool, true, false, if◌then◌else◌, ◌&&◌, ◌||◌, List, [], ◌∷◌, ◌++◌, map, Option, Some, None, sym, refl, ap, ap₂, ◌∙◌, subst, inl, inr, ◌==◌, pos, bytes_eq}
-use Rattle.std.proofs.lemmas.Bool.{cases_Bool, eq-eqb, eqb-true, or_cases, or_parts, or_from, or_left, or_right, false_from_ne_true, both_ways}
+use Rattle.std.proofs.Common.{◌≡◌, ℕ, ◌⊎◌, true, false, List, [], ◌∷◌, map, Some, None, sym, refl, ◌∙◌, subst, inl, inr, ◌==◌, bytes_eq}
+use Rattle.std.proofs.lemmas.Bool.{cases_Bool, eq-eqb, eqb-true, or_cases, or_from, or_left, or_right, false_from_ne_true, both_ways}
 use Rattle.std.proofs.lemmas.Slice.Eq.{bytes_eq-Decides}
-use Rattle.std.specs.List.{list_any, list_all, filter, flat_map, AllByRecursion}
+use Rattle.std.specs.List.{list_any, filter}
 use Rattle.query_meaning.specs.Eval.{join}
 use Rattle.sql_meaning.specs.declared.expression.SqlExpr.{SqlExpr}
 use Rattle.step_laws.specs.Carried.{Name, column}

@@ -1,6 +1,6 @@
 //! FROM, the joins and WHERE.
 
-ghost use Rattle.std.specs.Prelude.{◌≡◌, IfOk, map, [], ◌∷◌};
+ghost use Rattle.std.specs.Prelude.{◌≡◌, IfOk, map, []};
 ghost use Rattle.bound_scripts.specs.Sources.{relation_rows, with_each, bound_where_true, bound_first_rows};
 ghost use Rattle.bound_scripts.specs.Selects.{bound_sources, bound_passed};
 ghost use Rattle.bound_values.specs.Places.{picked};

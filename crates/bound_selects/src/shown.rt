@@ -1,6 +1,6 @@
 //! Rows whose cells are lent, so that those which are not kept cost no copy of a text.
 
-ghost use Rattle.std.specs.Prelude.{◌≡◌, IfOk, map};
+ghost use Rattle.std.specs.Prelude.{◌≡◌, IfOk};
 ghost use Rattle.std.specs.Cmp as comparisons;
 ghost use Rattle.sql_rows_meaning.specs.Cells.{same_cell};
 ghost use Rattle.bound_scripts.specs.Selects.{bound_item_cells};

@@ -1,6 +1,6 @@
 //! What a script reads: the given tables, and the rows of its steps so far.
 
-ghost use Rattle.std.specs.Prelude.{◌≡◌, ◌<◌, ◌++◌, ◌∷◌, [], length, map, IsTrue, OnOk, OnErr};
+ghost use Rattle.std.specs.Prelude.{◌≡◌, ◌<◌, ◌++◌, ◌∷◌, [], length, IsTrue, OnOk, OnErr};
 ghost use Rattle.table_meaning.specs.Tables.{is_table_set};
 ghost use Rattle.bound_scripts.specs.Values.{cell_in, row_in};
 ghost use Rattle.bound_scripts.specs.Sources.{relation_rows};

@@ -4,7 +4,7 @@ ghost use Rattle.std.specs.Prelude.{◌≡◌, map, true, false};
 ghost use Rattle.table_meaning.specs.declared.cell.Cell.TheVariants.{Truth};
 ghost use Rattle.sql_rows_meaning.specs.Values.{is_true, not_cell, and_cells, or_cells, all_cells, any_cells, first_cell};
 ghost use Rattle.rel_cells.specs.Seen.{seen_cell};
-ghost use Rattle.bound_scripts.specs.Values.{bound_value, bound_tried};
+ghost use Rattle.bound_scripts.specs.Values.{bound_value};
 ghost use Rattle.bound_values.specs.Places.{picked};
 ghost use Rattle.bound_values.specs.Known.{known, seen_option, taken};
 

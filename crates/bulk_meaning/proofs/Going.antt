@@ -1,12 +1,11 @@
 -- Loops that make things in turn.
-use Rattle.std.proofs.Common.{◌≡◌, ◌<◌, ◌≤◌, ℕ, zero, suc, ◌+◌, nat_eq, ◌==◌, ◌||◌, cond, Bool, true, false, List, [], ◌∷◌, ◌++◌, length, take, drop, get_or, map, Option, Some, None, IsSome, Ordering, Less, Equal, Greater, refl, sym, ap, ap₂, ◌∙◌, arith, subst, append_assoc, append-nil}
+use Rattle.std.proofs.Common.{◌≡◌, ◌<◌, ◌≤◌, ℕ, zero, suc, ◌+◌, nat_eq, ◌==◌, ◌||◌, cond, Bool, true, false, List, [], ◌∷◌, ◌++◌, length, take, drop, get_or, Option, Some, None, IsSome, Ordering, Less, Equal, Greater, refl, sym, ap, ◌∙◌, arith, subst, append-nil}
 use Rattle.std.specs.List.{flat_map, list_any, AllByRecursion}
 use Rattle.std.specs.List.Sorted.{IsStrictlySortedBy}
 use Rattle.std.specs.Ordering.{nat_cmp, is_eq, match_ordering}
 use Rattle.std.specs.BTreeMap.{is_at, insert_entry}
 use Rattle.std.specs.Map.{lookup, set_value, keys_of}
 use Rattle.std.proofs.Math.Seq.{drop-cons, take-suc}
-use Rattle.bags.specs.Bag.{total}
 use Rattle.bags.specs.BagLaws.{each-weaker}
 use Rattle.layout_meaning.specs.Side.{Pair, Entities, ValueLists, or_empty, elements_of}
 use Rattle.layout_meaning.specs.Lists.{ListsOf, with_list, with_value}

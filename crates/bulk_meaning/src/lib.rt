@@ -2,7 +2,7 @@
 //! definitions.
 #![tactic(auto)]
 
-ghost use Rattle.std.specs.Prelude.{◌≡◌, ◌++◌, ℕ, List};
+ghost use Rattle.std.specs.Prelude.{◌++◌, ℕ, List};
 ghost use Rattle.bags.specs.Bag.{SameBag};
 ghost use Rattle.layout_meaning.specs.Side.{SideState, items};
 ghost use Rattle.layout_meaning.specs.Sound.{IsSound, KeepsTo};

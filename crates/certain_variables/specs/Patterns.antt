@@ -1,6 +1,5 @@
 -- The variables of patterns, one by one.
 use Rattle.std.specs.Prelude.{◌≡◌, ℕ, Bool, true, false, ◌||◌, ◌==◌, List, [], ◌∷◌, refl}
-use Rattle.std.specs.List.{list_any}
 use Rattle.std.proofs.Common.{sym, ap, ◌∙◌}
 use Rattle.rdf_meaning.specs.Terms.{RdfTerm}
 use Rattle.query_meaning.specs.declared.pattern.Slot.TheVariants as slot

@@ -1,11 +1,9 @@
 -- Steps that bind, whatever the numbers of their SELECTs.
-use Rattle.std.specs.Prelude.{◌≡◌, ◌⊎◌, ℕ, ◌+◌, Bool, true, false, if◌then◌else◌, List, [], ◌∷◌, ◌++◌, map, Option, Some, None, Ok, is_some, refl}
-use Rattle.std.specs.Str.{bytes_eq}
+use Rattle.std.specs.Prelude.{◌≡◌, ℕ, false, List, [], ◌∷◌, Ok, is_some}
 use Rattle.table_meaning.specs.declared.schema.Column.{Column}
 use Rattle.sql_meaning.specs.declared.script.Step.{Step}
 use Rattle.sql_rows_meaning.specs.Scopes.{Schemas, with_schema}
 use Rattle.sql_rows_meaning.specs.Binding.{check_body}
-use Rattle.step_laws.specs.Carried.{Name}
 
 -- one step after another binds: its name is new, and its body has these columns
 pub data StepsBind : List Step → Schemas → Schemas → Type 0 where

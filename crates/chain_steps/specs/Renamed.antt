@@ -1,5 +1,5 @@
 -- Renamed steps give the same rows, and steps behind steps change nothing under other names.
-use Rattle.std.specs.Prelude.{◌≡◌, ℕ, Bool, true, false, if◌then◌else◌, ◌||◌, List, [], ◌∷◌, ◌++◌, map, Option, Some, None, refl}
+use Rattle.std.specs.Prelude.{◌≡◌, ℕ, Bool, false, if◌then◌else◌, List, [], ◌∷◌, ◌++◌, map, Option, Some, None, refl}
 use Rattle.std.proofs.Common.{sym, ap, ap₂, ◌∙◌, subst}
 use Rattle.std.proofs.Math.Path.{fun_ext}
 use Rattle.std.proofs.lemmas.Bool.{or_parts, or_from}
@@ -18,9 +18,9 @@ use Rattle.sql_rows_meaning.specs.Values.{Sight}
 use Rattle.sql_rows_meaning.specs.Tables.{Relation, Relations, with_relation}
 use Rattle.sql_rows_meaning.specs.Sources.{first_rows, joined_to, all_joined}
 use Rattle.sql_rows_meaning.specs.Selects.{select_rows}
-use Rattle.sql_rows_meaning.specs.Rows.{body_names, body_rows, body_relation, after_steps}
+use Rattle.sql_rows_meaning.specs.Rows.{body_names, body_relation, after_steps}
 use Rattle.step_laws.specs.Carried.{Name, Ids, Carries}
-use Rattle.chain_steps.specs.Chains.{rename_from, rename_join, rename_core, rename_body, rename_step, renamed, Renames, KeepsBase, is_named, IsApart, IsOfBase, SameBase, Stands}
+use Rattle.chain_steps.specs.Chains.{rename_from, rename_join, rename_core, rename_body, renamed, Renames, KeepsBase, is_named, IsApart, IsOfBase, SameBase, Stands}
 
 joined-renamed : (f : Name → Name) (t : Relations) (joins : List JoinTo) (sights : List Sight) → all_joined t (map (rename_join f) joins) sights ≡ all_joined (λ n. t (f n)) joins sights
 joined-renamed f t [] sights = refl

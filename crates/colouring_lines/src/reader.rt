@@ -1,6 +1,6 @@
 //! All lines of a colouring file.
 
-ghost use Rattle.std.specs.Prelude.{◌≡◌, IfOk, map, ℕ};
+ghost use Rattle.std.specs.Prelude.{IfOk, map};
 ghost use Rattle.line_meaning.specs.Lines.{lines_of};
 ghost use Rattle.nt_lines.specs.Refusals.{Gives};
 ghost use Rattle.colouring_meaning.specs.ColourLines.{AreFit};

@@ -2,7 +2,7 @@
 //! without a body are laws of these definitions.
 #![tactic(auto)]
 
-ghost use Rattle.std.specs.Prelude.{◌≡◌, ◌++◌, [], ℕ, List, Ok, Err};
+ghost use Rattle.std.specs.Prelude.{◌≡◌, [], ℕ, List, Ok, Err};
 ghost use Rattle.line_meaning.specs.Lines.{lines_of};
 ghost use Rattle.line_meaning.specs.Changes.{Refused};
 ghost use Rattle.colouring_meaning.specs.ColourLines.{ColourOf, ColourLinesRead, FirstColourRefused, AreFit};

@@ -1,6 +1,6 @@
 //! Reading the tables and the script of a text.
 
-ghost use Rattle.std.specs.Prelude.{◌≡◌, ◌≤◌, IfOk, IfErr, Err, List, drop, length, IsTrue};
+ghost use Rattle.std.specs.Prelude.{◌≤◌, IfOk, IfErr, Err, List, drop, length, IsTrue};
 ghost use Rattle.table_meaning.specs.Tables.{NamedTable};
 ghost use Rattle.table_meaning.specs.TableText.{TablesRead};
 ghost use Rattle.sql_meaning.specs.Texts.{SpellsOnly};

@@ -11,8 +11,7 @@ use Rattle.sql_rows_meaning.specs.Checks.{BranchKinds, check, all_truths, one_ki
 use Rattle.sql_rows_meaning.specs.CheckLaws.{branch_kinds}
 use Rattle.bound_scripts.specs.declared.expression.BoundExpr.{BoundExpr}
 use Rattle.bound_scripts.specs.declared.expression.BoundExpr.TheVariants as v
-use Rattle.bound_scripts.specs.declared.expression.BoundBranch.{BoundBranch}
-use Rattle.script_places.specs.Places.{Places, place, place_branch}
+use Rattle.script_places.specs.Places.{Places, place}
 use Rattle.script_places.specs.PlaceLaws.{place-All, place-Any, place-First}
 use Rattle.expr_binding.specs.Levels.{all_stops, all_checked, any_stops, any_checked, first_stops, first_checked, case_stops, case_no_last, case_checked}
 

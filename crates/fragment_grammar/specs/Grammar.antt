@@ -1,6 +1,6 @@
 -- The grammar of the fragment (SPARQL 1.1 Query, section 19.8, of which this project keeps a part).
-use Rattle.std.specs.Prelude.{Bool, true, false, IsTrue, List, [], ◌∷◌, ◌++◌, ◌≡◌, ◌+◌, ◌==◌, length, map, ℕ, Option, Some, None, codes}
-use Rattle.grammar_meaning.specs.Grammar.{Form, nothing, one, call, ◌⨾◌, ◌∣◌, many, maybe, Node, Nil, Leaf, Pair, Made, Grammar}
+use Rattle.std.specs.Prelude.{Bool, true, false, List, [], ◌∷◌, ◌++◌, ◌+◌, ◌==◌, map, ℕ, Option, Some, None, codes}
+use Rattle.grammar_meaning.specs.Grammar.{Form, one, call, ◌⨾◌, ◌∣◌, many, maybe, Node, Nil, Leaf, Pair, Made, Grammar}
 use Rattle.grammar_meaning.specs.Outcome.{or}
 use Rattle.rdf_meaning.specs.Terms.{RdfTerm, iri as iri_term, typed, tagged}
 use Rattle.rdf_meaning.specs.declared.text.KnownDatatype.TheVariants as known

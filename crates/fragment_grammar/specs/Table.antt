@@ -1,12 +1,9 @@
 -- What begins each symbol, tested against the rules, and what goes on with it.
-use Rattle.std.proofs.Common.{Bool, true, false, IsTrue, List, [], ◌∷◌, ◌≡◌, ℕ, refl, subst, sym, Some}
-use Rattle.grammar_meaning.specs.Grammar.{Form, call, ◌⨾◌, many}
-use Rattle.grammar_meaning.specs.Outcome.{or, and, implies, nullable, first, Lookahead, NotBegun, every_of, at}
+use Rattle.std.proofs.Common.{Bool, true, false, IsTrue, List, [], ◌∷◌, ◌≡◌, refl, Some}
+use Rattle.grammar_meaning.specs.Outcome.{and, implies, nullable, first, Lookahead, every_of, at}
 use Rattle.grammar_meaning.specs.Laws.{every_at}
-use Rattle.fragment_grammar.specs.declared.lexeme.Sign.{Sign}
 use Rattle.fragment_grammar.specs.declared.lexeme.Sign.TheVariants as s
-use Rattle.fragment_grammar.specs.declared.lexeme.Lexeme.{Lexeme}
-use Rattle.fragment_grammar.specs.Grammar.{Kind, sign, variable, iri, named, prefix_name, string, tag, count, literal, function, test, compare, direction, kind, code, sign_code, is, among, mark, Symbol, Query_, Prologue_, Shown_, Prefix_, Group_, Other_, Triples_, Same_, Objs_, Verb_, Term_, Iri_, Literal_, Cond_, Truth_, And_, Rel_, Compared_, Operator_, Values_, Prim_, Atom_, Value_, Fun_, Test_, Order_, Key_, Slice_, rule, grammar}
+use Rattle.fragment_grammar.specs.Grammar.{Kind, sign, variable, iri, named, prefix_name, string, tag, count, literal, function, test, compare, direction, code, among, Symbol, Query_, Prologue_, Shown_, Prefix_, Group_, Other_, Triples_, Same_, Objs_, Verb_, Term_, Iri_, Literal_, Cond_, Truth_, And_, Rel_, Compared_, Operator_, Values_, Prim_, Atom_, Value_, Fun_, Test_, Order_, Key_, Slice_, rule, grammar}
 
 abbrev pub empty : Symbol → Bool
 empty Prologue_ = true

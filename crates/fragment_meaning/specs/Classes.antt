@@ -1,5 +1,5 @@
 -- The characters of tokens (SPARQL 1.1 Query, section 19.8).
-use Rattle.std.specs.Prelude.{ℕ, Bool, true, false, List, [], ◌∷◌, ◌||◌, ◌&&◌, ◌==◌, nat_le, nat_lt, not, if◌then◌else◌}
+use Rattle.std.specs.Prelude.{ℕ, Bool, ◌||◌, ◌==◌, nat_le, not}
 use Rattle.rdf_meaning.specs.Characters.{is_between, is_digit, is_letter, is_base, is_name_mark}
 
 abbrev pub is_blank : ℕ → Bool

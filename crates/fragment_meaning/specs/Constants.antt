@@ -1,5 +1,5 @@
 -- The constants of a query's patterns.
-use Rattle.std.specs.Prelude.{ℕ, Bool, List, [], ◌∷◌, ◌++◌, if◌then◌else◌}
+use Rattle.std.specs.Prelude.{List, [], ◌∷◌, ◌++◌, if◌then◌else◌}
 use Rattle.std.specs.List.{flat_map, list_any}
 use Rattle.rdf_meaning.specs.Terms.{RdfTerm, same_term}
 use Rattle.query_meaning.specs.declared.pattern.Slot.{Slot}

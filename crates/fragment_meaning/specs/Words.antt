@@ -1,10 +1,9 @@
 -- The words of a query, and those of what is left out (SPARQL 1.1 Query, section 19.8; SPARQL 1.1 Update, section 3).
-use Rattle.std.specs.Prelude.{ℕ, Bool, List, [], ◌∷◌, ◌++◌, map, if◌then◌else◌, codes}
+use Rattle.std.specs.Prelude.{ℕ, List, [], ◌∷◌, map, if◌then◌else◌, codes}
 use Rattle.std.specs.Char.{to_ascii_uppercase}
 use Rattle.std.specs.Str.{bytes_eq}
 use Rattle.fragment_meaning.specs.declared.word.Word.{Word}
 use Rattle.fragment_meaning.specs.declared.word.Word.TheVariants.{Prefix, Select, Distinct, Where, Optional, Union, Filter, True, False, Not, In, Str, Lang, Datatype, Bound, SameTerm, IsIri, IsBlank, IsLiteral, Order, By, Asc, Desc, Limit, Offset, A, LeftOut, Unknown}
-use Rattle.fragment_meaning.specs.declared.word.Feature.{Feature}
 use Rattle.fragment_meaning.specs.declared.word.Feature.TheVariants as left_out
 
 -- a word in capitals

@@ -22,7 +22,7 @@ use Rattle.fragment_grammar.specs.declared.lexeme.Lexeme.{Lexeme}
 use Rattle.fragment_grammar.specs.Grammar.{Query_, grammar, a_query, Written, group_of}
 use Rattle.fragment_queries.specs.declared.refusal.QueryLimit.TheVariants as limits
 use Rattle.fragment_queries.specs.declared.refusal.QueryRefusal.{QueryRefusal}
-use Rattle.fragment_queries.specs.declared.refusal.QueryRefusal.TheVariants.{NoMemory, NotInFragment, UnknownPrefix, Limit}
+use Rattle.fragment_queries.specs.declared.refusal.QueryRefusal.TheVariants.{NotInFragment, UnknownPrefix, Limit}
 use Rattle.fragment_queries.specs.declared.refusal.QueryRefusal.TheVariants as refusal
 use Rattle.fragment_queries.specs.Lexemes.{lexemes, names}
 use Rattle.fragment_queries.specs.Limits.{Fault, unknown_prefix, limit, FaultAt, first_fault}

@@ -1,8 +1,8 @@
 -- The laws by which a reader's outcome at a form comes from those at its parts.
-use Rattle.std.specs.Prelude.{Bool, true, false, IsTrue, List, [], ◌∷◌, ◌≡◌, ◌≤◌, ◌⊎◌, length, ℕ}
+use Rattle.std.specs.Prelude.{Bool, true, false, IsTrue, List, [], ◌∷◌, ◌≡◌, ◌≤◌, ◌⊎◌, length}
 use Rattle.std.proofs.Common.{refl, sym, subst, ap, arith, inl, inr}
-use Rattle.grammar_meaning.specs.Grammar.{Form, nothing, one, call, ◌⨾◌, ◌∣◌, many, maybe, Node, Nil, Leaf, Pair, Made, Grammar, Reads, read_nothing, read_one, read_rule, read_both, read_left, read_right, read_many, Front, front_empty, front_one, front_rule, front_first, front_rest, front_left, front_right, front_many}
-use Rattle.grammar_meaning.specs.Outcome.{Begins, Most, Lags, Got, Broke, or, and, implies, nullable, first, Lookahead, fits, NotBegun}
+use Rattle.grammar_meaning.specs.Grammar.{Form, nothing, one, call, ◌⨾◌, ◌∣◌, many, Node, Nil, Leaf, Pair, Made, Grammar, Reads, read_nothing, read_one, read_rule, read_both, read_left, read_right, read_many, Front, front_empty, front_one, front_rule, front_first, front_rest, front_left, front_right, front_many}
+use Rattle.grammar_meaning.specs.Outcome.{Begins, Most, Lags, Got, Broke, and, implies, nullable, first, Lookahead, fits, NotBegun}
 use Rattle.grammar_meaning.specs.Laws.{reads_front, reads_le, reads_begins, front_begins, and_l, and_r, mp, begins_mono}
 
 both_no : (a : Bool) → IsTrue (implies a false) → IsTrue a → ⊥

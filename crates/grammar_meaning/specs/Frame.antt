@@ -1,7 +1,7 @@
 -- What is read, and what is a front, is a list of its own, whatever stands behind it.
-use Rattle.std.specs.Prelude.{List, [], ◌∷◌, ◌++◌, ◌≡◌, IsTrue}
+use Rattle.std.specs.Prelude.{List, [], ◌∷◌, ◌++◌, ◌≡◌}
 use Rattle.std.proofs.Common.{refl, sym, ap, subst, ◌∙◌, append_assoc}
-use Rattle.grammar_meaning.specs.Grammar.{Form, nothing, one, call, ◌⨾◌, ◌∣◌, many, Node, Grammar, Reads, read_nothing, read_one, read_rule, read_both, read_left, read_right, read_many, Front, front_empty, front_one, front_rule, front_first, front_rest, front_left, front_right, front_many}
+use Rattle.grammar_meaning.specs.Grammar.{Form, nothing, ◌⨾◌, ◌∣◌, many, Node, Grammar, Reads, read_nothing, read_one, read_rule, read_both, read_left, read_right, read_many, Front, front_empty, front_one, front_rule, front_first, front_rest, front_left, front_right, front_many}
 
 pub record ReadsAlone (G : Grammar) (f : Form G.Symbol G.Kind) (ts : List G.Token) (n : Node G.Token G.Tree) (us : List G.Token) : Type 0 where
   pub taken : List G.Token

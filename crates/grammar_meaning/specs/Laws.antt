@@ -1,8 +1,8 @@
 -- The laws of fronts.
 use Rattle.std.specs.Prelude.{Bool, true, false, IsTrue, List, [], ◌∷◌, ◌≡◌, ◌≤◌, ◌⊎◌, length, ℕ}
-use Rattle.std.proofs.Common.{refl, sym, subst, ap, arith, inl, inr, Option, Some, None, zero, suc}
-use Rattle.grammar_meaning.specs.Grammar.{Form, nothing, one, call, ◌⨾◌, ◌∣◌, many, maybe, Node, Nil, Leaf, Pair, Made, Grammar, Reads, read_nothing, read_one, read_rule, read_both, read_left, read_right, read_many, Front, front_empty, front_one, front_rule, front_first, front_rest, front_left, front_right, front_many}
-use Rattle.grammar_meaning.specs.Outcome.{Begins, Most, Lags, Got, Broke, or, and, implies, nullable, first, Lookahead, fits, NotBegun, every_of, at}
+use Rattle.std.proofs.Common.{refl, subst, arith, inl, inr, Some, zero, suc}
+use Rattle.grammar_meaning.specs.Grammar.{Form, nothing, one, ◌⨾◌, ◌∣◌, many, Node, Grammar, Reads, read_nothing, read_one, read_rule, read_both, read_left, read_right, read_many, Front, front_empty, front_one, front_rule, front_first, front_rest, front_left, front_right, front_many}
+use Rattle.grammar_meaning.specs.Outcome.{Begins, or, and, implies, nullable, first, Lookahead, every_of, at}
 
 pub reads_front : (G : Grammar) (f : Form G.Symbol G.Kind) (ts us : List G.Token) (n : Node G.Token G.Tree) → Reads G f ts n us → Front G f ts us
 reads_front G f ts us n read_nothing = front_empty

@@ -1,8 +1,8 @@
 -- The laws as readers use them: choice by the next token, optional parts, repeated parts, loops.
-use Rattle.std.specs.Prelude.{Bool, true, false, IsTrue, List, [], ◌∷◌, ◌≡◌, ◌≤◌, ◌⊎◌, length, ℕ}
-use Rattle.std.proofs.Common.{refl, sym, subst, ap, arith, inl, inr}
-use Rattle.grammar_meaning.specs.Grammar.{Form, nothing, one, call, ◌⨾◌, ◌∣◌, many, maybe, Node, Nil, Leaf, Pair, Made, Grammar, Reads, Front, front_empty}
-use Rattle.grammar_meaning.specs.Outcome.{Begins, Most, Lags, Got, Broke, implies, nullable, Lookahead, fits, NotBegun}
+use Rattle.std.specs.Prelude.{Bool, false, IsTrue, List, [], ◌∷◌, ◌≡◌, ◌≤◌, length}
+use Rattle.std.proofs.Common.{sym, subst, ap, arith, inl, inr}
+use Rattle.grammar_meaning.specs.Grammar.{Form, nothing, one, ◌⨾◌, ◌∣◌, many, Node, Nil, Pair, Grammar, Reads, Front, front_empty}
+use Rattle.grammar_meaning.specs.Outcome.{Begins, Lags, Got, Broke, implies, nullable, Lookahead, fits, NotBegun}
 use Rattle.grammar_meaning.specs.Laws.{reads_le, reads_front}
 use Rattle.grammar_meaning.specs.Exact.{got_nothing, lags_nothing, lags_none, lags_near, lags_most, got_left, got_right, broke_left, broke_right, got_then, broke_first, broke_rest, got_many, broke_many, most_wide, lags_wide}
 

@@ -1,10 +1,10 @@
 -- Ids tell terms apart, and so the values that a side holds are those of the triples.
-use Rattle.std.proofs.Common.{◌≡◌, ℕ, ◌+◌, ◌≤◌, ◌<◌, ◌==◌, ◌&&◌, ◌||◌, Bool, true, false, cond, if◌then◌else◌, List, [], ◌∷◌, map, refl, sym, ap, ◌∙◌, arith, subst}
+use Rattle.std.proofs.Common.{◌≡◌, ℕ, ◌+◌, ◌≤◌, ◌==◌, ◌&&◌, ◌||◌, Bool, true, false, cond, if◌then◌else◌, List, [], ◌∷◌, map, refl, sym, ap, ◌∙◌, arith, subst}
 use Rattle.std.specs.List.{filter, AllByRecursion}
 use Rattle.bags.specs.Bag.{total, SameBag}
 use Rattle.bags.specs.BagLaws.{total-map, total-filter, total-each}
 use Rattle.rdf_meaning.specs.Terms.{RdfTerm, RdfTriple, same_term}
-use Rattle.rdf_meaning.specs.TermLaws.{same_term-is, same_term-self}
+use Rattle.rdf_meaning.specs.TermLaws.{same_term-is}
 use Rattle.layout_meaning.specs.Side.{Item}
 use Rattle.layout_meaning.specs.Sound.{one_if}
 use Rattle.standing_meaning.specs.Dictionary.{Entry, AreEntries, HasIds, id_of, has_term}

@@ -1,13 +1,12 @@
 -- The last SELECT binds, with three columns for each shown variable.
-use Rattle.std.specs.Prelude.{◌≡◌, ◌⊎◌, ℕ, ◌+◌, ◌^◌, ◌<◌, ◌≤◌, Bool, true, false, if◌then◌else◌, ◌||◌, ◌==◌, List, [], ◌∷◌, ◌++◌, map, length, Option, Some, None, Ok, pos, codes, refl}
-use Rattle.std.proofs.Common.{sym, ap, ap₂, ◌∙◌, subst, inl, inr, arith, bytes_eq}
-use Rattle.std.proofs.lemmas.Bool.{cases_Bool, eq-eqb, eqb-true, or_cases, or_parts, or_from, or_left, or_right, false_from_ne_true, both_ways}
+use Rattle.std.specs.Prelude.{◌≡◌, ◌⊎◌, ℕ, ◌+◌, ◌^◌, ◌<◌, ◌≤◌, true, false, ◌||◌, ◌==◌, List, [], ◌∷◌, ◌++◌, map, length, Some, None, Ok, pos, codes, refl}
+use Rattle.std.proofs.Common.{subst, inl, inr, arith, bytes_eq}
+use Rattle.std.proofs.lemmas.Bool.{cases_Bool, eq-eqb, eqb-true, or_cases, or_from, or_left, or_right, false_from_ne_true, both_ways}
 use Rattle.std.proofs.lemmas.Fmt.{decimal_injective}
 use Rattle.std.proofs.lemmas.Slice.Eq.{bytes_eq-Decides}
 use Rattle.std.specs.Fmt.{decimal}
 use Rattle.std.specs.List.{list_any, flat_map, AllByRecursion}
 use Rattle.table_meaning.specs.declared.kind.Kind.TheVariants as kind
-use Rattle.table_meaning.specs.declared.schema.Column.{Column}
 use Rattle.query_meaning.specs.declared.modifiers.Key.{Key}
 use Rattle.query_meaning.specs.declared.modifiers.Modifiers.{Modifiers}
 use Rattle.sql_meaning.specs.declared.expression.SqlExpr.TheVariants as sql
@@ -21,7 +20,7 @@ use Rattle.term_steps.specs.TermTable.{class_name, number_name, text_name, aux_n
 use Rattle.last_steps.specs.LastSelect.{once, four_keys, shown_items, keys_of, variables_of_keys, last_core}
 use Rattle.last_steps.specs.LastRows.{all_in_sight}
 use Rattle.binding_laws.specs.StepColumns.{step_schema, Once, term_schema, TermsSeen, scope_with}
-use Rattle.binding_laws.specs.StepBinds.{then_fine, name_fine}
+use Rattle.binding_laws.specs.StepBinds.{name_fine}
 use Rattle.binding_laws.specs.TermBinds.{terms_seen, terms_in_scope, term_joins_fine, other_left, own_variables}
 use Rattle.last_binding.specs.LastColumns.{shown_columns, last_schema}
 

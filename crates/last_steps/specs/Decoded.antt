@@ -13,7 +13,7 @@ use Rattle.rdf_meaning.specs.declared.kind.TermKind.{TermKind}
 use Rattle.rdf_meaning.specs.declared.kind.TermKind.TheVariants.{Iri, Blank, Tagged, Typed}
 use Rattle.rdf_meaning.specs.Terms.{RdfTerm, is_term, same_kind, same_term}
 use Rattle.rdf_meaning.specs.TermLaws.{same_kind-is, same_kind-self}
-use Rattle.rdf_meaning.specs.Values.{class_of, class_of_kind, class_of_typed}
+use Rattle.rdf_meaning.specs.Values.{class_of, class_of_kind}
 use Rattle.rdf_meaning.specs.OrderLaws.{kind_of_class}
 use Rattle.query_meaning.specs.Answer.{Row, same_place, distinct_rows}
 use Rattle.table_meaning.specs.declared.cell.Cell.{Cell}
@@ -21,7 +21,7 @@ use Rattle.table_meaning.specs.declared.cell.Cell.TheVariants.{Null, Int, Text}
 use Rattle.sql_rows_meaning.specs.Cells.{same_cell}
 use Rattle.sql_rows_meaning.specs.Selects.{unrepeated}
 use Rattle.step_laws.specs.StepTests.{same_bools}
-use Rattle.last_steps.specs.LastSelect.{kind_of_number, then_place, then_term, decode_places, decode_row, then_row, decode}
+use Rattle.last_steps.specs.LastSelect.{kind_of_number, then_place, then_term, decode_places, then_row, decode}
 
 abbrev pub three : Option RdfTerm → List Cell
 three None = Null ∷ Null ∷ Null ∷ []

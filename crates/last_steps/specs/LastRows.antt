@@ -1,5 +1,5 @@
 -- The rows of the last SELECT are the answer.
-use Rattle.std.specs.Prelude.{◌≡◌, ◌⊎◌, ℕ, ℤ, ◌+◌, Bool, true, false, if◌then◌else◌, ◌==◌, List, [], ◌∷◌, ◌++◌, map, Option, Some, None, pos, take, drop, refl}
+use Rattle.std.specs.Prelude.{◌≡◌, ◌⊎◌, ℕ, ◌+◌, Bool, true, false, ◌==◌, List, [], ◌∷◌, ◌++◌, map, Option, Some, None, pos, take, drop, refl}
 use Rattle.std.proofs.Common.{sym, ap, ap₂, ◌∙◌, subst, inl, inr}
 use Rattle.std.proofs.lemmas.Bool.{cases_Bool, or_cases, or_left, or_right, eq-eqb, eqb-true}
 use Rattle.std.proofs.lemmas.List.{take-map, drop-map}
@@ -14,7 +14,6 @@ use Rattle.bags.specs.SortLaws.{sort-same, sort-test, map-sort, each-sort}
 use Rattle.bags.specs.ItemsLaws.{items_total, items_ties}
 use Rattle.rdf_meaning.specs.Terms.{RdfTerm, is_term}
 use Rattle.rdf_meaning.specs.Values.{class_of}
-use Rattle.rdf_meaning.specs.TermOrder.{place_order}
 use Rattle.query_meaning.specs.declared.modifiers.Key.{Key}
 use Rattle.query_meaning.specs.declared.modifiers.Modifiers.{Modifiers}
 use Rattle.query_meaning.specs.Mapping.{Mapping}
@@ -28,7 +27,7 @@ use Rattle.sql_rows_meaning.specs.Values.{Sight, value_of}
 use Rattle.sql_rows_meaning.specs.ValueLaws.{value_of-Int, value_of-Name}
 use Rattle.sql_rows_meaning.specs.Tables.{Relations}
 use Rattle.sql_rows_meaning.specs.Sources.{with_row, nothing_in_sight, all_joined}
-use Rattle.sql_rows_meaning.specs.Selects.{key_cells, key_order, item_cells, unrepeated, dropped, kept, select_rows}
+use Rattle.sql_rows_meaning.specs.Selects.{key_cells, key_order, item_cells, unrepeated, kept, select_rows}
 use Rattle.sql_rows_laws.specs.CellLaws.{cell_order_total, cell_order_ties}
 use Rattle.sql_rows_laws.specs.SelectLaws.{each-take, each-drop, each-firsts}
 use Rattle.step_laws.specs.Carried.{Name, Ids, Over, Carries}
@@ -37,8 +36,8 @@ use Rattle.step_laws.specs.UnionStep.{lone_env}
 use Rattle.term_steps.specs.TermTable.{class_name, number_name, text_name, aux_name, HasTerms, term_alias, term_joins, with_terms, class_cell, number_cell, text_cell, aux_cell, Shows}
 use Rattle.term_steps.specs.TermChain.{own_terms, shows_terms}
 use Rattle.last_steps.specs.LastSelect.{once, four_keys, shown_items, keys_of, variables_of_keys, last_core, decode}
-use Rattle.last_steps.specs.PlaceOrder.{four, four_flags, places-order, flags-are}
-use Rattle.last_steps.specs.Decoded.{three, shown_cells, IsPlace, IsRowOfTerms, decode-all, distinct-are}
+use Rattle.last_steps.specs.PlaceOrder.{four, places-order, flags-are}
+use Rattle.last_steps.specs.Decoded.{three, shown_cells, IsRowOfTerms, decode-all, distinct-are}
 
 -- ---- the items are a part of the keys
 

@@ -1,6 +1,6 @@
 -- What holds of all lists holds after each of their steps.
-use Rattle.std.proofs.Common.{◌≡◌, ℕ, suc, ◌+◌, ◌≤◌, ◌<◌, ◌==◌, nat_eq, Bool, true, false, if◌then◌else◌, List, [], ◌∷◌, ◌++◌, Option, Some, None, IsSome, length, arith, refl, sym, ap, subst, ◌∙◌}
-use Rattle.std.specs.List.{list_any, AllByRecursion}
+use Rattle.std.proofs.Common.{◌≡◌, ℕ, ◌+◌, ◌≤◌, ◌==◌, nat_eq, Bool, true, false, if◌then◌else◌, List, [], ◌∷◌, ◌++◌, Option, Some, None, IsSome, length, arith, refl, ap, ◌∙◌}
+use Rattle.std.specs.List.{list_any}
 use Rattle.std.specs.Ordering.{nat_cmp}
 use Rattle.std.specs.BTreeMap.{is_at, insert_entry}
 use Rattle.std.specs.Map.{lookup, set_value, remove_entry}
@@ -8,8 +8,8 @@ use Rattle.std.specs.Set.{remove_key}
 use Rattle.bags.specs.Bag.{total}
 use Rattle.std.specs.Option.{is_some}
 use Rattle.layout_meaning.specs.Side.{ValueLists, elements_of, left_lists, or_empty, only}
-use Rattle.layout_meaning.specs.Sound.{one_if, numbered, times, IsSoundList}
-use Rattle.layout_meaning.specs.Lists.{ListsOf, AreLists, with_list, with_last, with_value, without_value}
+use Rattle.layout_meaning.specs.Sound.{one_if, numbered, IsSoundList}
+use Rattle.layout_meaning.specs.Lists.{ListsOf, AreLists, with_list, with_value, without_value}
 use Rattle.layout_meaning.proofs.Maps.{set_value-total, insert_entry-total, remove_entry-total}
 use Rattle.layout_meaning.proofs.Sums.{numbered-none, total-remove_key}
 use Rattle.layout_meaning.proofs.RowsKept.{All-insert, All-set, All-remove, All-found, more-sound, length-total}

@@ -1,5 +1,5 @@
 -- Sides that keep to a list of names.
-use Rattle.std.proofs.Common.{◌≡◌, ℕ, ◌<◌, List, Option, Some, length, sym, ap, subst, ◌∙◌}
+use Rattle.std.proofs.Common.{◌≡◌, ℕ, ◌<◌, List, Some, length, sym, ap, subst}
 use Rattle.layout_meaning.specs.Columns.{candidates_of}
 use Rattle.layout_meaning.specs.Side.{Item, placed}
 use Rattle.layout_meaning.specs.Sound.{KeepsTo}

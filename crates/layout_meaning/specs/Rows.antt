@@ -1,5 +1,5 @@
 -- The rows of a side in order, and what is counted of them.
-use Rattle.std.specs.Prelude.{◌≡◌, ℕ, ◌+◌, nat_eq, Bool, true, false, List, [], ◌∷◌, Option, Some, None, length}
+use Rattle.std.specs.Prelude.{◌≡◌, ℕ, ◌+◌, nat_eq, Bool, List, [], ◌∷◌, Option, Some, None, length}
 use Rattle.std.specs.List.{list_any, flat_map, IsDistinct}
 use Rattle.std.specs.Ordering.{nat_cmp}
 use Rattle.std.specs.BTreeMap.{is_at}
@@ -7,7 +7,7 @@ use Rattle.std.specs.Map.{lookup}
 use Rattle.layout_meaning.specs.Sound.{KeepsTo}
 use Rattle.bags.specs.Bag.{total}
 use Rattle.layout_meaning.specs.Columns.{ColumnsOf, candidates_of}
-use Rattle.layout_meaning.specs.Side.{Pair, Item, Row, Rows, Entities, ValueLists, SideState, is_pred, rows_of, pair_items, placed, taken}
+use Rattle.layout_meaning.specs.Side.{Item, Row, Rows, Entities, SideState, is_pred, rows_of, pair_items, placed, taken}
 
 -- a side with its columns
 pub record SideOf : Type 0 where

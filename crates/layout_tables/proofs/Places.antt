@@ -1,5 +1,5 @@
 -- Cells by their places.
-use Rattle.std.proofs.Common.{◌≡◌, ℕ, zero, suc, ◌+◌, ◌-◌, ◌/◌, ◌%◌, ◌==◌, ◌≤◌, ◌<◌, Bool, true, false, if◌then◌else◌, List, [], ◌∷◌, ◌++◌, map, Option, Some, None, slice_get, get_or, length, refl, sym, ap, ap₂, ◌∙◌, arith}
+use Rattle.std.proofs.Common.{◌≡◌, ℕ, zero, suc, ◌+◌, ◌-◌, ◌/◌, ◌%◌, ◌==◌, ◌≤◌, ◌<◌, Bool, if◌then◌else◌, List, [], ◌∷◌, ◌++◌, map, Option, Some, None, slice_get, get_or, length, refl, sym, ap, ap₂, ◌∙◌, arith}
 use Rattle.std.specs.Prelude.{unwrap_or}
 use Rattle.std.specs.List.{flat_map}
 use Rattle.rdf_meaning.specs.Terms.{RdfTerm}
@@ -10,7 +10,7 @@ use Rattle.primary_rows.specs.Cells.{pair_of}
 use Rattle.primary_rows.specs.declared.cells.Pair as cells
 use Rattle.primary_rows.specs.declared.views.RowView.{RowView}
 use Rattle.primary_rows.specs.Views.{seen_row}
-use Rattle.standing_meaning.specs.Dictionary.{Entry, numbered_from, entries_of}
+use Rattle.standing_meaning.specs.Dictionary.{numbered_from, entries_of}
 use Rattle.standing_meaning.specs.Contents.{pair_cells, row_cells, term_cells}
 
 abbrev cell_in : List Cell → ℕ → Cell

@@ -1,25 +1,24 @@
 -- The rows of the five tables have the kinds of their columns.
-use Rattle.std.proofs.Common.{◌≡◌, ℕ, ℤ, zero, suc, ◌+◌, ◌≤◌, ◌&&◌, Bool, true, false, List, [], ◌∷◌, ◌++◌, map, Option, Some, None, length, pos, codes, refl, sym, ap, ◌∙◌, arith}
+use Rattle.std.proofs.Common.{◌≡◌, ℕ, ℤ, zero, suc, ◌+◌, ◌≤◌, ◌&&◌, true, List, [], ◌∷◌, ◌++◌, map, Option, Some, None, length, codes, refl, ap, ◌∙◌, arith}
 use Rattle.std.specs.List.{flat_map, list_all, AllByRecursion}
 use Rattle.std.proofs.lemmas.List.Folds.{list_all-append}
 use Rattle.bags.specs.BagLaws.{each-weaker}
 use Rattle.rdf_meaning.specs.Terms.{RdfTerm}
 use Rattle.rdf_meaning.specs.Values.{value_of}
 use Rattle.table_meaning.specs.declared.kind.Kind.TheVariants as kinds
-use Rattle.table_meaning.specs.declared.cell.Cell.{Cell}
 use Rattle.table_meaning.specs.Schemas.{is_schema}
 use Rattle.table_meaning.specs.Tables.{has_kind, NamedTable, is_row, are_rows, is_table_set}
 use Rattle.layout_meaning.specs.declared.value.Value.{Value}
 use Rattle.layout_meaning.specs.declared.value.Value.TheVariants.{One, Many}
-use Rattle.layout_meaning.specs.Side.{Pair, Row, Rows, Entities, ValueLists}
-use Rattle.layout_meaning.specs.Sound.{AreSoundRows, IsSound}
+use Rattle.layout_meaning.specs.Side.{Row, Rows, Entities, ValueLists}
+use Rattle.layout_meaning.specs.Sound.{AreSoundRows}
 use Rattle.layout_meaning.specs.Rows.{SideOf, NumberedRow, numbered_rows}
 use Rattle.standing_meaning.specs.Dictionary.{numbered_from, entries_of}
 use Rattle.standing_meaning.specs.Schemas.{pair_columns, primary_schema, list_schema, term_schema, table_of}
 use Rattle.standing_meaning.specs.Contents.{value_cell, pair_cells, row_cells, element_cells, number_cell, term_cells}
 use Rattle.standing_meaning.specs.Stored.{StoreOf, IsStore, tables_of}
 use Rattle.standing_meaning.proofs.Numbered.{each-numbered}
-use Rattle.layout_schemas.proofs.ColumnNames.{both, primary-is, list-is, term-is}
+use Rattle.layout_schemas.proofs.ColumnNames.{both, primary-is}
 
 value-kind : (v : Value) → has_kind kinds.Int (value_cell v) ≡ true
 value-kind (One v) = refl

@@ -1,23 +1,20 @@
 -- Terms and lines that are spelled are read.
-use Rattle.std.proofs.Common.{◌≡◌, ℕ, suc, ◌+◌, ◌⊎◌, inl, inr, Bool, true, false, cond, eqb, not, ◌&&◌, ◌||◌, List, [], ◌∷◌, ◌++◌, length, take, drop, map, reverse, refl, sym, ap, ◌∙◌, subst, arith, append_assoc, append-nil}
-use Rattle.std.specs.Prelude.{Option, Some, None, encode_utf8_all, option_map}
+use Rattle.std.proofs.Common.{◌≡◌, ℕ, suc, ◌+◌, ◌⊎◌, inl, inr, Bool, true, false, cond, eqb, not, ◌&&◌, ◌||◌, List, [], ◌∷◌, ◌++◌, drop, map, reverse, refl, sym, ap, ◌∙◌, subst, arith, append_assoc}
+use Rattle.std.specs.Prelude.{Some, encode_utf8_all}
 use Rattle.std.specs.List.{prefix_len}
 use Rattle.std.specs.Cmp.{first_so, second_so}
-use Rattle.std.specs.Str.{is_utf8, chars}
 use Rattle.std.proofs.Math.Seq.{drop-append_seam}
-use Rattle.std.proofs.lemmas.Bool.Decides.{Decides-eqb, nat_tests}
+use Rattle.std.proofs.lemmas.Bool.Decides.{nat_tests}
 use Rattle.std.proofs.lemmas.List.{reverse-append, reverse-reverse}
-use Rattle.std.proofs.lemmas.Str.{is_utf8-from_IsUtf8, encodes-IsAscii}
+use Rattle.std.proofs.lemmas.Str.{encodes-IsAscii}
 use Rattle.rdf_meaning.specs.declared.text.KnownDatatype.TheVariants.{String}
 use Rattle.rdf_meaning.specs.Known.{known_bytes}
 use Rattle.rdf_meaning.specs.Characters.{is_label_part, is_label_start, is_digit, is_name_mark, is_small_letter}
-use Rattle.rdf_meaning.specs.Terms.{RdfTerm, RdfTriple, typed, tagged, is_label_of, goes_on_as_label, is_tag, goes_on_as_tag, is_empty}
+use Rattle.rdf_meaning.specs.Terms.{RdfTerm, typed, tagged, is_label_of, goes_on_as_label, is_tag, goes_on_as_tag, is_empty}
 use Rattle.line_meaning.specs.declared.enclosure.Enclosure.TheVariants.{Iri, Text}
-use Rattle.line_meaning.specs.Characters.{is_blank, is_tag_part, lower}
-use Rattle.line_meaning.specs.Lines.{Reading, Nothing, Adds, Deletes}
-use Rattle.line_meaning.specs.Grammar.{Each, Encloses, SpellsIri, SpellsBlank, SpellsPlain, SpellsTagged, SpellsTyped, SpellsSubject, SpellsLiteral, SpellsObject, SpellsTriple, IsComment, SpellsNothing, SpellsChange, IsMark, SpellsMarked, CharactersRead, LineReads}
-use Rattle.line_meaning.specs.Reader.{◌>>=◌, after_blanks, after_char, text_at, iri_at, iri_term_at, is_label_or_dot, is_dot, without_last_dots, label_run, label_at, blank_at, starts, subject_at, tag_run, tagged_at, typed_at, literal_of, literal_at, object_at, triple_at, is_end, last_triple, after_gap, marked, content, chars_reading, reading_of}
-use Rattle.line_laws.specs.LineLaws.{IsComplete}
+use Rattle.line_meaning.specs.Characters.{is_tag_part, lower}
+use Rattle.line_meaning.specs.Grammar.{Each, Encloses, SpellsBlank, SpellsSubject, SpellsLiteral, SpellsObject}
+use Rattle.line_meaning.specs.Reader.{◌>>=◌, text_at, is_label_or_dot, is_dot, without_last_dots, label_run, label_at, blank_at, starts, subject_at, tag_run, tagged_at, typed_at, literal_of, literal_at, object_at}
 use Rattle.line_laws.proofs.Fronts.{past, before}
 use Rattle.line_laws.proofs.Pieces.{complete_text, not_same}
 use Rattle.line_laws.proofs.Tokens.{iri_back, iri_term_back, small_tag}

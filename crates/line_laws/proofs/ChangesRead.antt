@@ -1,12 +1,11 @@
 -- The changes of a text, and its first line that is refused.
-use Rattle.std.proofs.Common.{◌≡◌, ◌<◌, ◌≤◌, ℕ, ◌⊎◌, inl, inr, Bool, true, false, cond, List, [], ◌∷◌, ◌++◌, length, refl, sym, ap, ◌∙◌, subst, arith, Some, None, Option}
+use Rattle.std.proofs.Common.{◌≡◌, ◌<◌, ◌≤◌, ℕ, inl, inr, Bool, true, false, cond, List, [], ◌∷◌, ◌++◌, length, refl, subst, arith, Some, None, Option}
 use Rattle.std.specs.Prelude.{Result, Ok, Err, nat_lt}
 use Rattle.std.proofs.lemmas.Bool.Decides.{nat_tests}
 use Rattle.line_meaning.specs.declared.change.Change.{Change}
 use Rattle.line_meaning.specs.Lines.{Line, lines_of, Reading}
-use Rattle.line_meaning.specs.Grammar.{LineReads}
 use Rattle.line_meaning.specs.Reader.{reading_of}
-use Rattle.line_meaning.specs.Changes.{Refused, TooLong, Bad, changes_by, says, line_changes, before, then_changes, changes_in, changes_of}
+use Rattle.line_meaning.specs.Changes.{Refused, TooLong, Bad, changes_by, says, line_changes, then_changes, changes_in}
 use Rattle.line_laws.specs.LineLaws.{ReadsAs, LinesRead, IsRefusedFor, FirstRefused, ChangesAreRead, RefusalsAreFirst}
 use Rattle.line_laws.proofs.LinesRead.{sound}
 use Rattle.line_laws.proofs.LinesBack.{complete}

@@ -1,6 +1,6 @@
 -- Lines that are spelled are read.
-use Rattle.std.proofs.Common.{◌≡◌, ℕ, ◌⊎◌, inl, inr, Bool, true, false, eqb, ◌||◌, List, [], ◌∷◌, ◌++◌, drop, refl, sym, ap, ◌∙◌, append_assoc}
-use Rattle.std.specs.Prelude.{Option, Some, None, option_map}
+use Rattle.std.proofs.Common.{◌≡◌, ℕ, ◌⊎◌, inl, inr, Bool, true, false, eqb, ◌||◌, List, [], ◌∷◌, ◌++◌, refl, ap, ◌∙◌, append_assoc}
+use Rattle.std.specs.Prelude.{Option, Some, option_map}
 use Rattle.std.specs.List.{prefix_len}
 use Rattle.std.specs.Str.{is_utf8, chars}
 use Rattle.std.proofs.lemmas.Bool.Decides.{Decides-eqb}
@@ -8,8 +8,8 @@ use Rattle.std.proofs.lemmas.Str.{is_utf8-from_IsUtf8}
 use Rattle.rdf_meaning.specs.Terms.{RdfTerm, RdfTriple}
 use Rattle.line_meaning.specs.Characters.{is_blank}
 use Rattle.line_meaning.specs.Lines.{Reading, Nothing, Adds, Deletes}
-use Rattle.line_meaning.specs.Grammar.{Each, SpellsIri, SpellsSubject, SpellsLiteral, SpellsObject, SpellsTriple, IsComment, SpellsNothing, SpellsChange, IsMark, SpellsMarked, CharactersRead, LineReads}
-use Rattle.line_meaning.specs.Reader.{◌>>=◌, after_blanks, after_char, is_label_or_dot, subject_at, iri_term_at, object_at, triple_at, is_end, last_triple, after_gap, marked, content, chars_reading, reading_of}
+use Rattle.line_meaning.specs.Grammar.{Each, SpellsIri, SpellsSubject, SpellsLiteral, SpellsObject, SpellsTriple, IsComment, SpellsChange, IsMark, CharactersRead}
+use Rattle.line_meaning.specs.Reader.{◌>>=◌, is_label_or_dot, triple_at, is_end, last_triple, after_gap, content, chars_reading, reading_of}
 use Rattle.line_laws.specs.LineLaws.{IsComplete}
 use Rattle.line_laws.proofs.Fronts.{past}
 use Rattle.line_laws.proofs.Tokens.{iri_term_back}

@@ -1,6 +1,6 @@
 -- Texts between marks: what is read is what is spelled.
-use Rattle.std.proofs.Common.{◌≡◌, ◌≤◌, ℕ, zero, suc, ◌+◌, ◌⊎◌, inl, inr, Bool, true, false, cond, eqb, List, [], ◌∷◌, ◌++◌, length, take, drop, refl, sym, ap, ◌∙◌, subst, arith, append_assoc}
-use Rattle.std.specs.Prelude.{Option, Some, None, encode_utf8, encode_utf8_all, nat_le, ◌==◌}
+use Rattle.std.proofs.Common.{◌≡◌, ◌≤◌, ℕ, zero, suc, ◌+◌, inl, inr, Bool, true, false, cond, eqb, List, [], ◌∷◌, ◌++◌, length, take, drop, refl, sym, ap, ◌∙◌, subst, arith, append_assoc}
+use Rattle.std.specs.Prelude.{Option, Some, None, encode_utf8, encode_utf8_all, nat_le}
 use Rattle.std.proofs.Math.Numerals.{add-one}
 use Rattle.std.proofs.lemmas.Bool.Decides.{Decides-eqb, nat_tests}
 use Rattle.std.proofs.lemmas.List.{length-take-le, length-append}
@@ -8,7 +8,7 @@ use Rattle.std.proofs.Math.Seq.{take-append_seam}
 use Rattle.line_meaning.specs.declared.enclosure.Enclosure.{Enclosure}
 use Rattle.line_meaning.specs.declared.enclosure.Enclosure.TheVariants.{Iri, Text}
 use Rattle.line_meaning.specs.Characters.{close_of, stands_raw, short_escape, hex_from, is_scalar, digits_of_mark}
-use Rattle.line_meaning.specs.Grammar.{SpellsRaw, SpellsShort, SpellsCode, SpellsCharacter, SpellsCharacters}
+use Rattle.line_meaning.specs.Grammar.{SpellsCharacter, SpellsCharacters}
 use Rattle.line_meaning.specs.Reader.{◌>>=◌, scalar_of, code_at, with_count, coded_at, escape_at, piece_at, onto, text_behind}
 use Rattle.line_laws.proofs.Fronts.{bind_some, chosen, parts}
 

@@ -1,9 +1,7 @@
 -- Terms at the front: what is read is what is spelled.
-use Rattle.std.proofs.Common.{◌≡◌, ℕ, zero, suc, ◌+◌, ◌<◌, ◌⊎◌, inl, inr, Bool, true, false, cond, eqb, List, [], ◌∷◌, ◌++◌, length, take, drop, map, reverse, refl, sym, ap, ◌∙◌, subst, arith, append_assoc, append-nil, not, ◌&&◌, ◌||◌}
-use Rattle.std.specs.Prelude.{Option, Some, None, encode_utf8_all, option_map}
+use Rattle.std.proofs.Common.{◌≡◌, ℕ, ◌+◌, ◌<◌, ◌⊎◌, inl, inr, Bool, true, false, cond, eqb, List, [], ◌∷◌, ◌++◌, length, take, drop, map, reverse, refl, sym, ap, ◌∙◌, subst, arith, append_assoc}
+use Rattle.std.specs.Prelude.{Some, encode_utf8_all}
 use Rattle.std.specs.List.{prefix_len}
-use Rattle.std.specs.Cmp.{first_so, second_so}
-use Rattle.std.proofs.Math.Numerals.{one-add}
 use Rattle.std.proofs.Math.Seq.{drop-append_seam}
 use Rattle.std.proofs.lemmas.Bool.Decides.{Decides-eqb, nat_tests}
 use Rattle.std.proofs.lemmas.List.{reverse-append, reverse-reverse}
@@ -12,14 +10,13 @@ use Rattle.std.proofs.lemmas.Str.{encodes-IsAscii}
 use Rattle.std.proofs.lemmas.Str.Ascii.{IsAscii-nil, IsAscii-cons}
 use Rattle.rdf_meaning.specs.declared.text.KnownDatatype.TheVariants.{String}
 use Rattle.rdf_meaning.specs.Known.{known_bytes}
-use Rattle.rdf_meaning.specs.Characters.{is_label_part, is_label_start, is_digit}
-use Rattle.rdf_meaning.specs.Terms.{RdfTerm, iri, typed, tagged, blank, is_label_of, goes_on_as_label, is_tag, is_empty}
+use Rattle.rdf_meaning.specs.Terms.{RdfTerm, iri, typed, tagged, blank, is_label_of, is_tag}
 use Rattle.line_meaning.specs.declared.enclosure.Enclosure.{Enclosure}
 use Rattle.line_meaning.specs.declared.enclosure.Enclosure.TheVariants.{Iri, Text}
 use Rattle.line_meaning.specs.Characters.{close_of, is_tag_part, lower}
-use Rattle.line_meaning.specs.Grammar.{Each, SpellsCharacters, Encloses, open_of, SpellsIri, SpellsBlank, SpellsPlain, SpellsTagged, SpellsTyped, SpellsSubject, SpellsLiteral, SpellsObject}
-use Rattle.line_meaning.specs.Reader.{◌>>=◌, after_char, text_behind, text_at, iri_at, iri_term_at, is_label_or_dot, is_dot, without_last_dots, label_run, label_at, blank_at, starts, subject_at, tag_run, tagged_at, typed_at, literal_of, literal_at, object_at}
-use Rattle.line_laws.proofs.Fronts.{bind_some, map_some, chosen, past, before, front_passes, parts, after_char_is}
+use Rattle.line_meaning.specs.Grammar.{Each, Encloses, open_of, SpellsIri, SpellsBlank, SpellsSubject, SpellsLiteral, SpellsObject}
+use Rattle.line_meaning.specs.Reader.{◌>>=◌, after_char, text_at, iri_at, iri_term_at, is_label_or_dot, is_dot, without_last_dots, label_run, label_at, blank_at, starts, subject_at, tag_run, tagged_at, typed_at, literal_of, literal_at, object_at}
+use Rattle.line_laws.proofs.Fronts.{bind_some, map_some, chosen, front_passes, parts, after_char_is}
 use Rattle.line_laws.proofs.Pieces.{Found, sound_text, complete_text}
 
 -- what stands at the front, and what follows it

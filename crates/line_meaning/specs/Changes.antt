@@ -1,6 +1,5 @@
 -- What a text of data lines changes, or where it is refused.
 use Rattle.std.specs.Prelude.{ℕ, List, [], ◌∷◌, ◌++◌, length, Option, Some, None, Result, Ok, Err, nat_lt, if◌then◌else◌}
-use Rattle.rdf_meaning.specs.Terms.{RdfTriple}
 use Rattle.line_meaning.specs.Lines.{Line, lines_of, Reading, Nothing, Adds, Deletes}
 use Rattle.line_meaning.specs.Reader.{reading_of}
 use Rattle.line_meaning.specs.declared.change.Change.{Change}

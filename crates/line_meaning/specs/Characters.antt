@@ -1,5 +1,5 @@
 -- Characters of data lines and their escapes (N-Triples 1.1, section 7).
-use Rattle.std.specs.Prelude.{ℕ, Bool, true, false, ◌||◌, ◌&&◌, ◌==◌, ◌+◌, ◌*◌, not, nat_le, nat_lt, if◌then◌else◌, Option, Some, None, List, [], ◌∷◌, length, take}
+use Rattle.std.specs.Prelude.{ℕ, Bool, ◌||◌, ◌&&◌, ◌==◌, ◌+◌, ◌*◌, not, nat_le, nat_lt, if◌then◌else◌, Option, Some, None, List, [], ◌∷◌}
 use Rattle.std.specs.Char.{digit_value, to_ascii_lowercase}
 use Rattle.rdf_meaning.specs.Spelling.{is_escaped}
 use Rattle.line_meaning.specs.declared.enclosure.Enclosure.{Enclosure}

@@ -1,6 +1,6 @@
 -- What a line says, found from its front.
-use Rattle.std.specs.Prelude.{ℕ, zero, suc, ◌+◌, Bool, true, false, List, [], ◌∷◌, ◌++◌, length, take, drop, Option, Some, None, ◌==◌, ◌||◌, ◌&&◌, if◌then◌else◌, option_map, map, reverse, nat_le, encode_utf8, encode_utf8_all, codes}
-use Rattle.std.specs.List.{prefix_len, list_any}
+use Rattle.std.specs.Prelude.{ℕ, zero, suc, ◌+◌, Bool, true, false, List, [], ◌∷◌, ◌++◌, length, take, drop, Option, Some, None, ◌==◌, ◌||◌, if◌then◌else◌, option_map, map, reverse, nat_le, encode_utf8, encode_utf8_all}
+use Rattle.std.specs.List.{prefix_len}
 use Rattle.std.specs.Str.{is_utf8, chars}
 use Rattle.rdf_meaning.specs.declared.text.KnownDatatype.TheVariants.{String}
 use Rattle.rdf_meaning.specs.Known.{known_bytes}

@@ -1,5 +1,5 @@
 -- The numbers that rows name are those of the lists, in order.
-use Rattle.std.proofs.Common.{◌≡◌, ℕ, zero, suc, ◌+◌, ◌^◌, ◌≤◌, ◌<◌, ◌==◌, Bool, true, false, if◌then◌else◌, List, [], ◌∷◌, ◌++◌, map, Option, Some, None, length, get_or, take, refl, sym, ap, ap₂, ◌∙◌, subst, arith, IsSome, nat_eq}
+use Rattle.std.proofs.Common.{◌≡◌, ℕ, zero, suc, ◌+◌, ◌^◌, ◌≤◌, ◌<◌, ◌==◌, Bool, true, false, List, [], ◌∷◌, ◌++◌, map, Option, Some, None, length, get_or, take, refl, sym, ap, ap₂, ◌∙◌, subst, arith, IsSome}
 use Rattle.std.specs.Prelude.{All}
 use Rattle.std.specs.List.{flat_map, AllByRecursion}
 use Rattle.std.proofs.lemmas.List.{take_more}
@@ -16,7 +16,7 @@ use Rattle.table_meaning.specs.declared.cell.Cell.{Cell}
 use Rattle.layout_meaning.specs.declared.value.Value.{Value}
 use Rattle.layout_meaning.specs.declared.value.Value.TheVariants.{One, Many}
 use Rattle.layout_meaning.specs.Columns.{ColumnsOf}
-use Rattle.layout_meaning.specs.Side.{Pair, Row, Entities, ValueLists, SideState, elements_of}
+use Rattle.layout_meaning.specs.Side.{Pair, Row, ValueLists, SideState, elements_of}
 use Rattle.layout_meaning.specs.Lists.{ListsOf}
 use Rattle.layout_meaning.specs.Sound.{one_if, names, numbered, times, IsSound}
 use Rattle.layout_meaning.specs.Rows.{NumberedRow, numbered_rows}

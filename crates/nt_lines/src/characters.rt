@@ -2,7 +2,6 @@
 
 ghost use Rattle.std.specs.Prelude.{◌≡◌, ◌≤◌, length, option_map};
 ghost use Rattle.std.specs.List.{prefix_len};
-ghost use Rattle.std.specs.Option.{option_copied};
 ghost use Rattle.line_meaning.specs.Characters.{is_blank};
 ghost use Rattle.line_meaning.specs.Reader.{after_blanks, after_char, starts, is_end};
 

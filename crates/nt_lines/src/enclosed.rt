@@ -1,10 +1,10 @@
 //! Texts between two marks, with their escapes.
 
-ghost use Rattle.std.specs.Prelude.{◌≡◌, ◌≤◌, ◌+◌, length, option_map, IfOk, IfSome, string_bytes};
+ghost use Rattle.std.specs.Prelude.{◌≡◌, ◌≤◌, ◌+◌, length, IfOk, IfSome};
 ghost use Rattle.line_meaning.specs.Characters.{close_of, stands_raw, letter_escape, short_escape, hex_from, digits_of_mark};
 ghost use Rattle.std.specs.Prelude.{◌<◌, nat_lt, if◌then◌else◌, Some, None};
 ghost use Rattle.std.specs.Char.{digit_value};
-ghost use Rattle.line_meaning.specs.Reader.{code_at, coded_at, escape_at, piece_at, text_at};
+ghost use Rattle.line_meaning.specs.Reader.{code_at, escape_at, piece_at, text_at};
 ghost use Rattle.rdf_meaning.specs.Spelling.{is_escaped};
 ghost use Rattle.nt_lines.specs.Fronts.{front_text};
 

@@ -1,12 +1,12 @@
 //! Labels of blank nodes and language tags.
 
-ghost use Rattle.std.specs.Prelude.{◌≡◌, ◌≤◌, length, option_map, IfOk, IfSome, Some, None, if◌then◌else◌, map, take, drop, string_bytes, encode_utf8_all, IsTrue, true};
+ghost use Rattle.std.specs.Prelude.{◌≡◌, ◌≤◌, length, IfOk, IfSome, Some, None, map, string_bytes, encode_utf8_all, IsTrue, true};
 ghost use Rattle.std.specs.List.{prefix_len};
 ghost use Rattle.std.specs.Str.{all_scalars};
-ghost use Rattle.rdf_meaning.specs.Characters.{is_between, is_label_part, is_label_start, is_digit, is_base, is_name_mark, is_letter, is_small_letter};
-ghost use Rattle.rdf_meaning.specs.Terms.{is_label_of, goes_on_as_label, is_tag, goes_on_as_tag};
+ghost use Rattle.rdf_meaning.specs.Characters.{is_between, is_label_part, is_label_start, is_base, is_name_mark};
+ghost use Rattle.rdf_meaning.specs.Terms.{is_label_of, goes_on_as_label, is_tag};
 ghost use Rattle.line_meaning.specs.Characters.{is_tag_part, lower};
-ghost use Rattle.line_meaning.specs.Reader.{is_label_or_dot, without_last_dots, label_run, tag_run};
+ghost use Rattle.line_meaning.specs.Reader.{is_label_or_dot, without_last_dots};
 ghost use Rattle.nt_lines.specs.Fronts.{front_label, label_chars_at};
 
 use std::alloc::{AllocError, Global};

@@ -1,7 +1,7 @@
 //! One line.
 
-ghost use Rattle.std.specs.Prelude.{◌≡◌, ◌≤◌, length, option_map, IfOk, MatchOption};
-ghost use Rattle.std.specs.Str.{chars, IsUtf8};
+ghost use Rattle.std.specs.Prelude.{◌≡◌, option_map, IfOk, MatchOption};
+ghost use Rattle.std.specs.Str.{chars};
 ghost use Rattle.line_meaning.specs.Reader.{after_blanks, triple_at, last_triple, after_gap, content, chars_reading, reading_of};
 ghost use Rattle.nt_lines.specs.Fronts.{front_triple, marked_triple};
 ghost use Rattle.line_meaning.specs.Lines.{Adds, Deletes};

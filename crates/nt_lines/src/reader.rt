@@ -1,8 +1,8 @@
 //! All lines of a text.
 
-ghost use Rattle.std.specs.Prelude.{◌≡◌, ◌∷◌, ◌<◌, ◌≤◌, ◌+◌, ◌^◌, ℕ, IfSome, length, ◌==◌, if◌then◌else◌};
+ghost use Rattle.std.specs.Prelude.{◌≡◌, ◌∷◌, ◌<◌, ◌≤◌, ◌+◌, ℕ, IfSome, length, ◌==◌, if◌then◌else◌};
 ghost use Rattle.std.specs.List.{prefix_len};
-ghost use Rattle.line_meaning.specs.Lines.{Line, lines_from, lines_of, is_inner};
+ghost use Rattle.line_meaning.specs.Lines.{lines_from, lines_of, is_inner};
 ghost use Rattle.line_meaning.specs.Changes.{before, line_changes, changes_of};
 ghost use Rattle.nt_lines.specs.Refusals.{Gives, IsReading, lines_after};
 

@@ -1,8 +1,7 @@
 //! Terms at the front of a line.
 
-ghost use Rattle.std.specs.Prelude.{◌≡◌, length, option_map, IfOk, IsTrue, string_bytes, encode_utf8_all};
-ghost use Rattle.rdf_meaning.specs.Terms.{is_label_of, is_tag, blank, iri, typed, tagged};
-ghost use Rattle.rdf_meaning.specs.Known.{known_bytes};
+ghost use Rattle.std.specs.Prelude.{◌≡◌, IfOk, IsTrue, encode_utf8_all};
+ghost use Rattle.rdf_meaning.specs.Terms.{is_label_of, is_tag, blank, iri, typed};
 ghost use Rattle.line_meaning.specs.Reader.{iri_at, iri_term_at, label_at, blank_at, subject_at, tagged_at, typed_at, literal_of, literal_at, object_at};
 ghost use Rattle.nt_lines.specs.Fronts.{front_term, front_text, HasSubject, HasPredicate};
 

@@ -1,7 +1,7 @@
 -- The two steps of an optional join with a condition bind.
-use Rattle.std.proofs.Common.{◌≡◌, ℕ, ◌⊎◌, Bool, true, false, if◌then◌else◌, ◌&&◌, ◌||◌, List, [], ◌∷◌, ◌++◌, map, Option, Some, None, sym, refl, ap, ap₂, ◌∙◌, subst, inl, inr, ◌==◌, pos, bytes_eq}
+use Rattle.std.proofs.Common.{◌≡◌, ℕ, ◌⊎◌, Bool, true, false, if◌then◌else◌, List, [], ◌∷◌, ◌++◌, map, Some, None, refl, ap, ap₂, ◌∙◌, subst, inl, inr, ◌==◌, pos, bytes_eq}
 use Rattle.std.proofs.lemmas.Bool.{cases_Bool, eq-eqb, eqb-true, or_cases, or_from, or_left, or_right, false_from_ne_true, both_ways}
-use Rattle.std.specs.List.{list_any, list_all, filter, AllByRecursion}
+use Rattle.std.specs.List.{list_any}
 use Rattle.std.specs.Prelude.{◌+◌}
 use Rattle.query_meaning.specs.Eval.{join}
 use Rattle.sql_meaning.specs.declared.script.JoinTo.{JoinTo}

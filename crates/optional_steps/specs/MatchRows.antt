@@ -1,5 +1,5 @@
 -- The two steps of an optional join with a condition.
-use Rattle.std.specs.Prelude.{◌≡◌, ℕ, ◌+◌, ◌/◌, ◌%◌, ◌<◌, Bool, true, false, cond, if◌then◌else◌, List, [], ◌∷◌, ◌++◌, map, Option, Some, None, pos}
+use Rattle.std.specs.Prelude.{◌≡◌, ℕ, ◌+◌, ◌/◌, ◌%◌, Bool, true, false, if◌then◌else◌, List, [], ◌∷◌, ◌++◌, map, Some, None}
 use Rattle.std.specs.List.{AllByRecursion}
 use Rattle.query_meaning.specs.Mapping.{either}
 use Rattle.rdf_meaning.specs.Terms.{RdfTerm}

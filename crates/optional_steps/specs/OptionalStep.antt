@@ -1,12 +1,11 @@
 -- The matches, and the rows of the left side without one.
-use Rattle.std.proofs.Common.{◌≡◌, ℕ, zero, suc, ◌+◌, ◌/◌, ◌%◌, ◌<◌, ◌≤◌, ◌⊎◌, Bool, true, false, cond, not, if◌then◌else◌, ◌&&◌, ◌||◌, List, [], ◌∷◌, ◌++◌, map, Option, Some, None, sym, refl, ap, ap₂, ◌∙◌, subst, arith, eqb, inl, inr, ◌==◌, pos, is_some, bytes_eq}
-use Rattle.std.proofs.lemmas.Bool.{cases_Bool, cases_eq, eq-eqb, eqb-true, ne_eqb, and_parts, and_from, or_cases, or_parts, or_left, or_right, false_from_ne_true, both_ways}
-use Rattle.std.proofs.lemmas.List.{map-append, append-nil}
+use Rattle.std.proofs.Common.{◌≡◌, ℕ, zero, suc, ◌+◌, ◌/◌, ◌%◌, ◌<◌, ◌⊎◌, Bool, true, false, cond, not, if◌then◌else◌, ◌&&◌, ◌||◌, List, [], ◌∷◌, ◌++◌, map, Option, Some, None, sym, refl, ap, ap₂, ◌∙◌, subst, arith, eqb, inl, inr, ◌==◌, pos, is_some, bytes_eq}
+use Rattle.std.proofs.lemmas.Bool.{cases_Bool, cases_eq, eq-eqb, eqb-true, ne_eqb, and_parts, and_from, or_cases, or_left, or_right, false_from_ne_true}
+use Rattle.std.proofs.lemmas.List.{append-nil}
 use Rattle.std.specs.List.{filter, flat_map, list_all, list_any, AllByRecursion}
 use Rattle.step_laws.specs.StepTests.{same_number, same_bools}
 use Rattle.std.specs.Ordering.{int_eq}
 use Rattle.step_laws.specs.PlainSelects.{plain_rows}
-use Rattle.std.specs.Prelude.{ℤ}
 use Rattle.query_meaning.specs.Mapping.{Mapping, width, compatible, merge}
 use Rattle.query_meaning.specs.Eval.{left_join, or_alone, found}
 use Rattle.rdf_meaning.specs.Terms.{RdfTerm}

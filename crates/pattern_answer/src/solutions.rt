@@ -1,9 +1,7 @@
 //! The solutions of one pattern: the triples that are instances of it, in the order of what they bind.
 
-ghost use Rattle.std.specs.Prelude.{◌≡◌, ◌<◌, [], map, length, slice_get, Some, IfOk, filter, option_copied};
+ghost use Rattle.std.specs.Prelude.{◌≡◌, ◌<◌, length, slice_get, Some, IfOk, filter, option_copied};
 ghost use Rattle.std.specs.Ordering.{on};
-ghost use Rattle.bags.specs.Sort.{sort, by_items};
-ghost use Rattle.rdf_meaning.specs.TermOrder.{place_order};
 ghost use Rattle.query_meaning.specs.Leaf.{bound, slot_is, is_variable};
 ghost use Rattle.pattern_answer.specs.Rows.{is_match, row_at, plain_order, sorted_matches};
 

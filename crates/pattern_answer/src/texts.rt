@@ -1,6 +1,6 @@
 //! The text of an answer.
 
-ghost use Rattle.std.specs.Prelude.{◌≡◌, ◌++◌, ◌∷◌, [], List, OnOk, IfOk, map, length, option_copied};
+ghost use Rattle.std.specs.Prelude.{◌≡◌, ◌++◌, ◌∷◌, List, OnOk, IfOk, map};
 ghost use Rattle.query_meaning.specs.Leaf.{bound};
 ghost use Rattle.query_meaning.specs.AnswerText.{tabbed, row_text, header_text, answer_text, place_text};
 ghost use Rattle.bags.specs.Bag.{SameBag};

@@ -12,7 +12,7 @@ use Rattle.layout_meaning.specs.Columns.{ColumnsOf, candidates_of}
 use Rattle.layout_meaning.specs.Rows.{SideOf, placed_in}
 use Rattle.layout_meaning.specs.declared.value.Value.{Value}
 use Rattle.layout_meaning.specs.declared.value.Value.TheVariants.{One, Many}
-use Rattle.layout_meaning.specs.Side.{Pair, Item, Row, Rows, SideState, rows_of, find, free_at, put_at, first_free, first_of, put_or, place_new, with_rows, place_by, placed, is_held}
+use Rattle.layout_meaning.specs.Side.{Pair, Item, Row, Rows, SideState, rows_of, find, put_at, first_free, first_of, put_or, place_new, with_rows, place_by, placed, is_held}
 use Rattle.layout_meaning.specs.Sound.{over}
 use Rattle.layout_meaning.proofs.RowSums.{free_row-total}
 use Rattle.layout_meaning.proofs.Sums.{over-with_rows, written-total}

@@ -1,9 +1,9 @@
 -- Equal bags of triples have the same statistics.
-use Rattle.std.proofs.Common.{◌≡◌, ◌⊎◌, ◌≤◌, ◌||◌, ℕ, Bool, true, false, List, [], ◌∷◌, map, length, refl, sym, ap, ◌∙◌, inl, inr, subst, arith}
+use Rattle.std.proofs.Common.{◌≡◌, ◌⊎◌, ◌≤◌, ◌||◌, ℕ, Bool, true, false, List, [], ◌∷◌, map, length, refl, sym, ap, ◌∙◌, inl, inr, subst}
 use Rattle.std.specs.List.{list_any, AllByRecursion}
 use Rattle.std.proofs.lemmas.Bool.{cases_Bool, true≢false}
-use Rattle.bags.specs.Bag.{total, SameBag}
-use Rattle.bags.specs.BagLaws.{same-sym, same-trans, same-map, same-length, same-any}
+use Rattle.bags.specs.Bag.{SameBag}
+use Rattle.bags.specs.BagLaws.{same-trans, same-map, same-length, same-any}
 use Rattle.rdf_meaning.specs.Terms.{RdfTriple, same_triple}
 use Rattle.rdf_meaning.specs.TermLaws.{same_triple-is, same_triple-self}
 use Rattle.table_meaning.specs.Tables.{NamedTable}
@@ -11,7 +11,7 @@ use Rattle.layout_meaning.specs.Sound.{one_if}
 use Rattle.standing_meaning.specs.Dictionary.{HasIds, IsTriple, id_of}
 use Rattle.standing_meaning.specs.Schemas.{LayoutOf}
 use Rattle.standing_meaning.specs.Contents.{Contents, direct_item, reverse_item}
-use Rattle.standing_meaning.specs.Standing.{AreTriples, Says}
+use Rattle.standing_meaning.specs.Standing.{Says}
 use Rattle.stats_meaning.specs.Statistics.{StatsOf, AreStats}
 
 or_right : (a b : Bool) → b ≡ true → (a || b) ≡ true

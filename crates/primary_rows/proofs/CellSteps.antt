@@ -1,12 +1,11 @@
 -- Steps on the cells of a row.
-use Rattle.std.proofs.Common.{◌≡◌, ℕ, zero, suc, ◌+◌, ◌≤◌, ◌<◌, ◌==◌, ◌&&◌, Bool, true, false, IsTrue, if◌then◌else◌, List, [], ◌∷◌, ◌++◌, map, Option, Some, None, take, drop, length, get_or, set, replicate, nat_lt, refl, sym, ap, ◌∙◌, arith, subst}
+use Rattle.std.proofs.Common.{◌≡◌, ℕ, zero, suc, ◌+◌, ◌≤◌, ◌<◌, ◌&&◌, Bool, true, false, List, [], ◌∷◌, ◌++◌, map, Option, Some, None, take, drop, length, get_or, set, replicate, refl, sym, ap, ◌∙◌, arith}
 use Rattle.std.specs.List.{list_all}
 use Rattle.std.proofs.Math.Seq.{drop-cons}
 use Rattle.std.proofs.lemmas.List.{map-set, get_or-map}
-use Rattle.layout_meaning.specs.declared.value.Value.{Value}
 use Rattle.layout_meaning.specs.Side.{Pair, is_pred, is_none, write_in_row, free_at, put_at}
 use Rattle.primary_rows.specs.declared.cells.Pair as cells
-use Rattle.primary_rows.specs.Cells.{pair_of, fits, pair_with}
+use Rattle.primary_rows.specs.Cells.{pair_of, fits}
 
 pub free_at_past : (r : List (Option Pair)) (c : ℕ) → length r ≤ c → free_at r c ≡ false
 free_at_past [] c h = refl

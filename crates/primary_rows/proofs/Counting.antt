@@ -1,5 +1,5 @@
 -- What a change of an entity's rows does to the counts of rows and of predicates behind first rows.
-use Rattle.std.proofs.Common.{◌≡◌, ℕ, zero, suc, ◌+◌, ◌-◌, ◌≤◌, ◌<◌, ◌==◌, nat_lt, Bool, true, false, not, if◌then◌else◌, is_some, List, [], ◌∷◌, ◌++◌, Option, Some, None, IsSome, length, refl, sym, ap, ◌∙◌, arith, subst}
+use Rattle.std.proofs.Common.{◌≡◌, ℕ, zero, suc, ◌+◌, ◌-◌, ◌≤◌, ◌<◌, ◌==◌, nat_lt, Bool, true, false, not, if◌then◌else◌, is_some, List, [], ◌∷◌, ◌++◌, Option, Some, None, IsSome, length, refl, sym, ap, ◌∙◌, arith}
 use Rattle.std.specs.Ordering.{nat_cmp}
 use Rattle.std.specs.BTreeMap.{is_at}
 use Rattle.std.specs.Map.{lookup, set_value, remove_entry}
@@ -10,8 +10,7 @@ use Rattle.layout_meaning.specs.Sound.{one_if, has_pred}
 use Rattle.std.specs.List.{list_any}
 use Rattle.std.proofs.Common.{take, map, get_or, nat_eq, ◌||◌}
 use Rattle.std.proofs.Math.Seq.{take-suc}
-use Rattle.std.specs.Set.{remove_key}
-use Rattle.layout_meaning.specs.Rows.{later, row_total, is_spilled, IsCountOf}
+use Rattle.layout_meaning.specs.Rows.{later, is_spilled, IsCountOf}
 use Rattle.layout_meaning.specs.Side.{is_pred}
 use Rattle.layout_meaning.proofs.Maps.{set_value-same}
 use Rattle.layout_meaning.proofs.Sums.{total-append}

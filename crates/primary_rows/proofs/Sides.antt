@@ -1,14 +1,12 @@
 -- What holds of a side after each change.
-use Rattle.std.proofs.Common.{◌≡◌, ℕ, ◌+◌, ◌^◌, ◌≤◌, ◌<◌, nat_eq, Bool, true, false, List, [], ◌∷◌, Option, Some, None, IsSome, All, length, arith, refl, sym, ap, subst, ◌∙◌}
+use Rattle.std.proofs.Common.{◌≡◌, ℕ, ◌+◌, ◌^◌, ◌≤◌, ◌<◌, nat_eq, Bool, true, false, List, [], ◌∷◌, Option, Some, None, IsSome, All, length, arith, refl, sym, ap, ◌∙◌}
 use Rattle.std.specs.List.{list_any, AllByRecursion}
 use Rattle.std.specs.Ordering.{nat_cmp}
 use Rattle.std.specs.BTreeMap.{is_at}
 use Rattle.std.specs.Map.{lookup, remove_entry}
-use Rattle.bags.specs.Bag.{total}
 use Rattle.layout_meaning.specs.declared.value.Value.{Value}
 use Rattle.layout_meaning.specs.declared.value.Value.TheVariants.{One, Many}
-use Rattle.layout_meaning.specs.Side.{Pair, Row, Rows, Item, SideState, rows_of, elements_of, found_values, find, find_in_row, or_else, is_held, place_by, take_by, first_of, only, left_lists, left_over, written, items}
-use Rattle.layout_meaning.specs.Sound.{IsSound}
+use Rattle.layout_meaning.specs.Side.{Row, Rows, Item, SideState, rows_of, found_values, find, find_in_row, or_else, place_by, take_by, first_of, only, left_lists, left_over, written}
 use Rattle.layout_meaning.proofs.Held.{listed, held_by_place, held_by_take}
 use Rattle.layout_meaning.proofs.Kept.{place_by-sound, take_by-sound}
 use Rattle.layout_meaning.proofs.RowsKept.{rows_fit}

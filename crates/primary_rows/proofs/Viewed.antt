@@ -1,9 +1,8 @@
 -- Rows that are viewed one by one.
-use Rattle.std.proofs.Common.{◌≡◌, ℕ, zero, suc, ◌+◌, ◌<◌, List, [], ◌∷◌, ◌++◌, map, take, length, get_or, refl, sym, ap, ◌∙◌, arith, subst}
-use Rattle.std.specs.List.{flat_map}
+use Rattle.std.proofs.Common.{◌≡◌, ℕ, zero, suc, ◌+◌, ◌<◌, List, [], ◌∷◌, ◌++◌, map, take, length, get_or, refl, sym, ap, ◌∙◌, arith}
 use Rattle.std.proofs.Math.Seq.{take-suc}
-use Rattle.layout_meaning.specs.Side.{Row, Rows, Entities}
-use Rattle.layout_meaning.specs.Rows.{NumberedRow, rows_from, numbered_rows}
+use Rattle.layout_meaning.specs.Side.{Row, Rows}
+use Rattle.layout_meaning.specs.Rows.{NumberedRow, rows_from}
 use Rattle.primary_rows.specs.declared.views.RowView.{RowView}
 use Rattle.primary_rows.specs.Cells.{pair_of}
 use Rattle.primary_rows.specs.Views.{seen_row}

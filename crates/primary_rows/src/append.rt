@@ -1,7 +1,7 @@
 //! Rows of a later side behind those of a side, and their lists under its next ids.
 
-ghost use Rattle.std.specs.Prelude.{◌≡◌, ◌≤◌, ◌<◌, ◌+◌, ◌++◌, ◌^◌, ℕ, List, [], length, map, IfOk, OnOk, IsTrue};
-ghost use Rattle.std.specs.List.{flat_map, list_all, AllByRecursion};
+ghost use Rattle.std.specs.Prelude.{◌≡◌, ◌<◌, ◌+◌, ◌++◌, ◌^◌, IfOk, OnOk, IsTrue};
+ghost use Rattle.std.specs.List.{flat_map, AllByRecursion};
 ghost use Rattle.layout_meaning.specs.Lists.{with_list};
 ghost use Rattle.layout_meaning.specs.Sound.{IsSoundList};
 ghost use Rattle.bulk_meaning.specs.Appended.{given_value, given_pair, given_row, given_rows, given_entities, named_by_value, named_by, named_in_rows, named_lists, with_lists, IsAbove};

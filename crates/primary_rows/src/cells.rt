@@ -1,6 +1,6 @@
 //! Cells of rows.
 
-ghost use Rattle.std.specs.Prelude.{◌≡◌, ◌==◌, ◌≤◌, ◌<◌, ◌^◌, ◌≤ℤ◌, pos, List, ℕ, length, IfOk, Option, None, Some, IsTrue, map, replicate};
+ghost use Rattle.std.specs.Prelude.{◌≡◌, ◌==◌, ◌≤◌, ◌<◌, IfOk, Option, None, Some, IsTrue, map, replicate};
 ghost use Rattle.std.specs.List.{list_all};
 ghost use Rattle.layout_meaning.specs.Side.{is_pred, is_none, find_in_row, write_in_row, all_free, free_at, put_at, first_free};
 ghost use Rattle.primary_rows.specs.Cells.{value_of, fits, fits_cell, pair_of, pair_with, is_small, is_small_if};

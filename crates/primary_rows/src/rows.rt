@@ -1,6 +1,6 @@
 //! The rows of one entity.
 
-ghost use Rattle.std.specs.Prelude.{◌≡◌, ◌≤◌, ◌<◌, List, [], ℕ, length, nat_eq, not, is_some, IsTrue, OnOk, OnErr, Option, None, Some};
+ghost use Rattle.std.specs.Prelude.{◌≡◌, ◌≤◌, ◌<◌, [], length, is_some, IsTrue, OnOk, OnErr, Option, None, Some};
 ghost use Rattle.layout_meaning.specs.Side.{find, find_in_row, write, place_new};
 ghost use Rattle.primary_rows.specs.Cells.{pair_with, is_small, is_small_if};
 ghost use Rattle.primary_rows.specs.Places.{opens, goes_behind, first_row};

@@ -1,6 +1,6 @@
 //! One side: its rows, its lists and its columns.
 
-ghost use Rattle.std.specs.Prelude.{◌≡◌, ◌≢◌, ◌≤◌, ◌<◌, ◌+◌, ◌^◌, ◌∷◌, ◌++◌, [], ℕ, List, length, map, nat_eq, true, false, IsTrue, IfOk, OnOk, OnErr, Some, None, Err};
+ghost use Rattle.std.specs.Prelude.{◌≡◌, ◌≤◌, ◌<◌, ◌+◌, ◌^◌, ◌∷◌, [], ℕ, List, length, map, nat_eq, true, false, IfOk, OnOk, OnErr, Some, None, Err};
 ghost use Rattle.std.specs.List.{list_any};
 ghost use Rattle.layout_meaning.specs.declared.value.Value.TheVariants.{One};
 ghost use Rattle.std.specs.Set.{remove_key};
@@ -9,12 +9,12 @@ ghost use Rattle.std.specs.Ordering.{nat_cmp};
 ghost use Rattle.std.specs.Map.{keys_of};
 ghost use Rattle.bags.specs.Bag.{total};
 ghost use Rattle.primary_rows.specs.Views.{seen_row};
-ghost use Rattle.layout_meaning.specs.Side.{items, with_rows, rows_of, place_new, first_of, found_values, elements_of, only, placed, taken, is_held};
-ghost use Rattle.layout_meaning.specs.Lists.{with_list, with_value, without_value, list_id};
+ghost use Rattle.layout_meaning.specs.Side.{items, with_rows, rows_of, place_new, first_of, found_values, elements_of, only, taken, is_held};
+ghost use Rattle.layout_meaning.specs.Lists.{with_list, with_value, without_value};
 ghost use Rattle.layout_meaning.specs.Columns.{candidates_of};
 ghost use Rattle.layout_meaning.specs.Sound.{IsSound};
 ghost use Rattle.layout_meaning.specs.Rows.{numbered_rows, IsCountOf, is_spilled, items_of, row_total, placed_in, taken_from, KeepsToNames, name_in};
-ghost use Rattle.value_lists.specs.Answers.{put_of, take_out_of, HasNumber};
+ghost use Rattle.value_lists.specs.Answers.{put_of, HasNumber};
 ghost use Rattle.primary_rows.specs.Answers.{took_of};
 ghost use Rattle.bulk_meaning.specs.Appended.{appended_side, IsAbove};
 

@@ -1,9 +1,9 @@
 //! The rows of all entities, with what is counted of them.
 
-ghost use Rattle.std.specs.Prelude.{◌≡◌, ◌≤◌, ◌<◌, ◌^◌, ◌+◌, ◌-◌, ◌==◌, ◌&&◌, ◌++◌, ℕ, [], length, map, IfOk, nat_eq, nat_lt, not, is_some, if◌then◌else◌, true, false, IsTrue, IsSome, IfSome, OnOk, OnErr, None, Some};
+ghost use Rattle.std.specs.Prelude.{◌≡◌, ◌≤◌, ◌<◌, ◌^◌, ◌+◌, ◌-◌, ◌==◌, ◌++◌, ℕ, [], length, map, IfOk, nat_eq, nat_lt, is_some, if◌then◌else◌, true, false, IsTrue, IsSome, IfSome, OnOk, OnErr, None, Some};
 ghost use Rattle.std.specs.Ordering.{nat_cmp};
-ghost use Rattle.std.specs.BTreeMap.{get, is_at, insert_entry};
-ghost use Rattle.std.specs.Map.{lookup, set_value, remove_entry};
+ghost use Rattle.std.specs.BTreeMap.{get, is_at};
+ghost use Rattle.std.specs.Map.{set_value, remove_entry};
 ghost use Rattle.bags.specs.Bag.{total};
 ghost use Rattle.layout_meaning.specs.Side.{find, find_in_row, write, place_new, first_of, rows_of, with_rows};
 ghost use Rattle.layout_meaning.specs.Sound.{one_if, has_pred};
@@ -12,7 +12,7 @@ ghost use Rattle.std.specs.Map.{keys_of};
 ghost use Rattle.primary_rows.specs.Views.{seen_row};
 ghost use Rattle.layout_meaning.specs.Rows.{numbered_rows, rows_from, is_spilled, row_total, IsCountOf};
 ghost use Rattle.primary_rows.specs.Cells.{is_small, is_small_if, pair_of, pair_with};
-ghost use Rattle.primary_rows.specs.Places.{opens, goes_behind, first_row, drops, gone};
+ghost use Rattle.primary_rows.specs.Places.{opens, goes_behind, first_row, gone};
 ghost use Rattle.primary_rows.specs.Counted.{count_in};
 ghost use Rattle.primary_rows.specs.Held.{IsThere, pair_count};
 ghost use Rattle.std.specs.List.{AllByRecursion};

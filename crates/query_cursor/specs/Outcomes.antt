@@ -1,5 +1,5 @@
 -- What a reader of a symbol answers, exactly, and what is in front of it.
-use Rattle.std.proofs.Common.{Bool, true, false, IsTrue, List, [], ◌∷◌, ◌≡◌, ◌≤◌, length, ℕ, refl, ap, subst, sym, ◌∙◌, Some}
+use Rattle.std.proofs.Common.{Bool, true, false, IsTrue, List, [], ◌∷◌, ◌≡◌, length, refl, ap, subst, sym, ◌∙◌, Some}
 use Rattle.std.proofs.lemmas.Bool.{ne_eqb}
 use Rattle.grammar_meaning.specs.Grammar.{Form, call, ◌⨾◌, many, Node, Leaf, Made, Reads}
 use Rattle.grammar_meaning.specs.Outcome.{Begins, Got, Broke, NotBegun, implies, or, first, every_of, at}

@@ -1,7 +1,7 @@
 -- How many brackets and `!` are open.
-use Rattle.std.proofs.Common.{ℕ, zero, suc, ◌≡◌, ◌+◌, ◌-◌, ◌<◌, ◌≤◌, Bool, true, false, List, [], ◌∷◌, length, drop, get_or, nat_lt, refl, sym, ap, ◌∙◌, arith}
+use Rattle.std.proofs.Common.{ℕ, suc, ◌≡◌, ◌+◌, ◌-◌, ◌<◌, ◌≤◌, Bool, true, false, List, [], ◌∷◌, length, drop, get_or, nat_lt, refl, sym, ap, ◌∙◌, arith}
 use Rattle.std.proofs.Math.Seq.{drop-cons}
-use Rattle.fragment_queries.specs.Limits.{Role, next, subject, filter, open_now, one_if, behind_bracket, depth_of}
+use Rattle.fragment_queries.specs.Limits.{Role, next, subject, filter, open_now, one_if, behind_bracket}
 use Rattle.query_faults.specs.Depth.{without_last}
 
 pub last_bracket : (bs ds : List Bool) → ds ≡ without_last bs → ds ≡ [] → next subject ≡ behind_bracket bs

@@ -1,5 +1,5 @@
 -- The first fault: what one token comes to, and what a loop over tokens keeps.
-use Rattle.std.proofs.Common.{ℕ, zero, suc, ◌≡◌, ◌+◌, ◌<◌, ◌≤◌, ◌^◌, Bool, true, false, List, [], ◌∷◌, length, Option, None, Some, refl, sym, ap, subst, ◌∙◌, arith, nat_lt, if◌then◌else◌}
+use Rattle.std.proofs.Common.{ℕ, zero, suc, ◌≡◌, ◌+◌, ◌<◌, ◌≤◌, ◌^◌, Bool, true, false, List, [], ◌∷◌, length, Option, None, Some, refl, sym, ap, ◌∙◌, arith, nat_lt, if◌then◌else◌}
 use Rattle.fragment_meaning.specs.declared.token.Token.{Token}
 use Rattle.fragment_meaning.specs.declared.token.TokenKind.{TokenKind}
 use Rattle.fragment_queries.specs.declared.refusal.QueryLimit.{QueryLimit}
@@ -16,7 +16,7 @@ use Rattle.query_faults.specs.declared.faults.Step.{Step}
 use Rattle.query_faults.specs.declared.faults.Step.TheVariants as step
 use Rattle.query_faults.specs.Roles.{role_of}
 use Rattle.query_faults.specs.Passing.{limit_of, fault_of_limit, first_passed}
-use Rattle.query_faults.specs.States.{state_of, counts_of, HasRoom, IsNear, IsFirst, is_first, IsNext, is_next, IsUnknown, is_unknown}
+use Rattle.query_faults.specs.States.{state_of, counts_of, HasRoom, IsFirst, is_first, IsNext, is_next, IsUnknown, is_unknown}
 
 abbrev pub fault_of : Fault → limits.Fault
 fault_of f.UnknownPrefix = unknown_prefix

@@ -1,5 +1,5 @@
 -- The first of the limits that are passed.
-use Rattle.std.proofs.Common.{ℕ, ◌≡◌, Bool, true, false, ◌&&◌, nat_lt, List, [], ◌∷◌, ◌++◌, length, Option, None, Some, refl, ap, ◌∙◌, if◌then◌else◌}
+use Rattle.std.proofs.Common.{ℕ, ◌≡◌, Bool, true, false, ◌&&◌, nat_lt, List, [], ◌∷◌, ◌++◌, length, Option, None, Some, refl, if◌then◌else◌}
 use Rattle.fragment_meaning.specs.declared.token.TokenKind.{TokenKind}
 use Rattle.fragment_queries.specs.declared.refusal.QueryLimit.{QueryLimit}
 use Rattle.fragment_queries.specs.declared.refusal.QueryLimit.TheVariants.{Patterns, Variables, Groups, Blocks, Depth, Keys, Digits}

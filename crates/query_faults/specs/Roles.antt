@@ -1,5 +1,5 @@
 -- Where a token stands, as the definition has it.
-use Rattle.std.proofs.Common.{ℕ, ◌-◌, ◌≡◌, Option, None, Some, refl, sym, ap, ◌∙◌}
+use Rattle.std.proofs.Common.{ℕ, ◌-◌, ◌≡◌, Option, None, Some, sym, ap, ◌∙◌}
 use Rattle.fragment_meaning.specs.declared.token.TokenKind.{TokenKind}
 use Rattle.fragment_meaning.specs.declared.token.TokenKind.TheVariants as k
 use Rattle.fragment_meaning.specs.declared.token.Mark.TheVariants as m

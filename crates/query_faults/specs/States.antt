@@ -1,11 +1,11 @@
 -- What was counted before a token, as the definition has it.
-use Rattle.std.proofs.Common.{ℕ, ◌≡◌, ◌+◌, ◌<◌, ◌≤◌, ◌^◌, Bool, true, false, not, ◌&&◌, List, [], length, Option, None, Some, refl, sym, ap, subst, ◌∙◌, is_some, arith}
+use Rattle.std.proofs.Common.{ℕ, ◌≡◌, ◌+◌, ◌<◌, ◌≤◌, ◌^◌, Bool, true, false, ◌&&◌, List, [], length, Option, refl, ap, ◌∙◌, arith}
 use Rattle.fragment_meaning.specs.declared.token.TokenKind.{TokenKind}
 use Rattle.fragment_meaning.specs.declared.token.TokenKind.TheVariants as k
 use Rattle.fragment_meaning.specs.declared.token.Mark.TheVariants as m
-use Rattle.fragment_queries.specs.Prefixes.{Declared, iri_of, is_declared, Declaring, nothing, begun, declaring, declared}
+use Rattle.fragment_queries.specs.Prefixes.{Declared, declaring, declared}
 use Rattle.fragment_queries.specs.Lexemes.{named_by}
-use Rattle.fragment_queries.specs.Limits.{Role, head, State, nothing_yet, state_after, role_after, groups_after, blocks_after, keys_after, is_object, is_behind_object, completes, one_if}
+use Rattle.fragment_queries.specs.Limits.{Role, State, nothing_yet, state_after, role_after, groups_after, blocks_after, keys_after, is_object, is_behind_object, completes, one_if}
 use Rattle.fragment_queries.specs.Limits as limits
 use Rattle.query_lexemes.specs.declared.scope.Scope.{Scope}
 use Rattle.query_lexemes.specs.Declarings.{declaring_of}
@@ -13,7 +13,6 @@ use Rattle.query_lexemes.specs.Scopes.{StandFor}
 use Rattle.query_faults.specs.declared.limits.Counts.{Counts}
 use Rattle.query_faults.specs.declared.state.State.{State as Kept}
 use Rattle.query_faults.specs.Roles.{role_of, role_at}
-use Rattle.query_faults.specs.Passing.{counts_in}
 
 -- with these declarations
 abbrev pub state_of : Kept → List Declared → State

@@ -1,6 +1,6 @@
 //! The open brackets of a filter.
 
-ghost use Rattle.std.specs.Prelude.{◌≡◌, ◌≤◌, ◌∷◌, [], OnOk, nat_lt, IsTrue, ◌↔◌};
+ghost use Rattle.std.specs.Prelude.{◌≡◌, ◌∷◌, [], OnOk, nat_lt, IsTrue, ◌↔◌};
 ghost use Rattle.fragment_queries.specs.Limits.{open_now};
 ghost use Rattle.query_faults.specs.Depth.{without_last};
 

@@ -1,10 +1,8 @@
 //! What was counted before a token.
 
-ghost use Rattle.std.specs.Prelude.{◌≡◌, ◌+◌, ◌<◌, ◌^◌, ◌&&◌, IfOk, List, length};
+ghost use Rattle.std.specs.Prelude.{◌≡◌, ◌+◌, ◌<◌, ◌^◌, ◌&&◌, IfOk};
 ghost use Rattle.std.specs.Option.{option_copied};
-ghost use Rattle.fragment_queries.specs.Prefixes.{Declared};
 ghost use Rattle.fragment_queries.specs.Limits.{groups_after, blocks_after, keys_after, is_object, is_behind_object, is_unknown, one_if};
-ghost use Rattle.query_lexemes.specs.Scopes.{StandFor};
 ghost use Rattle.query_faults.specs.Roles.{role_of};
 ghost use Rattle.query_faults.specs.States.{HasRoom, IsFirst, IsNext, IsUnknown, counts_of};
 

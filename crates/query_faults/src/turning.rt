@@ -1,7 +1,7 @@
 //! Where the next token stands.
 
 ghost use Rattle.std.specs.Prelude.{◌≡◌, IfOk};
-ghost use Rattle.std.specs.Option.{option_copied, option_map};
+ghost use Rattle.std.specs.Option.{option_copied};
 ghost use Rattle.fragment_queries.specs.Limits.{goes_on, is_text, done, behind_part, behind_text, takes_brackets, behind_bracket, in_filter, between, in_end, role_behind, behind_brace};
 ghost use Rattle.query_faults.specs.Roles.{place_of, role_of, IsBetween, role_at};
 

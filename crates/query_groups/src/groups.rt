@@ -1,9 +1,9 @@
 //! Groups, optional groups, unions and filters.
 
-ghost use Rattle.std.specs.Prelude.{IfOk, IfErr, ◌≡◌, ◌<◌, ◌∷◌, [], length};
-ghost use Rattle.fragment_grammar.specs.Grammar.{Group_, Other_, elements, an_element, sign};
+ghost use Rattle.std.specs.Prelude.{IfOk, IfErr, ◌<◌, length};
+ghost use Rattle.fragment_grammar.specs.Grammar.{Group_, Other_, elements, an_element};
 ghost use Rattle.fragment_grammar.specs.declared.lexeme.Sign.TheVariants as signs;
-ghost use Rattle.query_cursor.specs.Outcomes.{Gets, Stops, SomeOf};
+ghost use Rattle.query_cursor.specs.Outcomes.{Gets, Stops};
 ghost use Rattle.query_groups.specs.GroupSteps.{PartGot, PartStops};
 ghost use Rattle.query_groups.specs.UnionSteps.{UnionsGot, UnionsStop};
 

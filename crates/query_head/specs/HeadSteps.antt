@@ -11,7 +11,7 @@ use Rattle.fragment_grammar.specs.declared.lexeme.Sign.{Sign}
 use Rattle.fragment_grammar.specs.declared.lexeme.Sign.TheVariants as s
 use Rattle.fragment_grammar.specs.Grammar.{sign, variable, iri, prefix_name, among, mark, word, grammar, Read}
 use Rattle.fragment_grammar.specs.Table.{look, after}
-use Rattle.query_cursor.specs.Outcomes.{Gets, gets, got, Breaks, breaks, broke, Stops, stops_memory, stops_at, handed, IsNot, NoneOf, SomeOf, or_false, not_first, not_kind, not_then, not_again, not_begun, apart, ahead, token}
+use Rattle.query_cursor.specs.Outcomes.{Gets, gets, got, breaks, broke, Stops, stops_memory, stops_at, handed, IsNot, not_kind, not_then, token}
 use Rattle.query_cursor.specs.declared.refusal.Refusal.{Refusal}
 use Rattle.query_cursor.specs.declared.refusal.Refusal.TheVariants.{Syntax}
 use Rattle.std.specs.Prelude.{Option, Some, None}

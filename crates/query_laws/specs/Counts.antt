@@ -1,13 +1,12 @@
 -- What the counts along a text tell of what is read: a walk from place to place passes no more patterns, keys and brackets than
 -- the count has.
-use Rattle.std.specs.Prelude.{◌≡◌, ◌≤◌, ℕ, zero, suc, ◌+◌, ◌-◌, ◌*◌, Bool, true, false, ◌&&◌, if◌then◌else◌, nat_le, List, [], ◌∷◌, ◌++◌, length, map, Option, Some, None, refl}
+use Rattle.std.specs.Prelude.{◌≡◌, ◌≤◌, ℕ, suc, ◌+◌, ◌-◌, ◌*◌, Bool, true, false, ◌&&◌, if◌then◌else◌, nat_le, List, [], ◌∷◌, ◌++◌, length, map, refl}
 use Rattle.std.specs.List.{AllByRecursion}
 use Rattle.std.proofs.Common.{sym, ap, ◌∙◌, subst, arith, length-append}
 use Rattle.std.proofs.lemmas.Bool.{false≢true, leb-true, le-leb}
-use Rattle.grammar_meaning.specs.Grammar.{Node, Nil, Leaf, Pair, Made}
+use Rattle.grammar_meaning.specs.Grammar.{Pair, Made}
 use Rattle.query_meaning.specs.declared.pattern.Slot.{Slot}
 use Rattle.query_meaning.specs.declared.pattern.Pattern.{Pattern}
-use Rattle.query_meaning.specs.declared.expression.CompareOp.{CompareOp}
 use Rattle.query_meaning.specs.declared.expression.ValueExpr.{ValueExpr}
 use Rattle.query_meaning.specs.declared.expression.TruthExpr.{TruthExpr}
 use Rattle.query_meaning.specs.declared.expression.TruthExpr.TheVariants as truths
@@ -19,11 +18,11 @@ use Rattle.fragment_grammar.specs.declared.lexeme.Sign.{Sign}
 use Rattle.fragment_grammar.specs.declared.lexeme.Sign.TheVariants as s
 use Rattle.fragment_grammar.specs.declared.lexeme.Lexeme.{Lexeme}
 use Rattle.fragment_grammar.specs.declared.lexeme.Lexeme.TheVariants as l
-use Rattle.fragment_grammar.specs.Grammar.{Kind, sign, variable, Symbol, Query_, Prologue_, Shown_, Prefix_, Group_, Other_, Triples_, Same_, Objs_, Verb_, Term_, Iri_, Literal_, Cond_, Truth_, And_, Rel_, Compared_, Operator_, Values_, Prim_, Atom_, Value_, Fun_, Test_, Order_, Key_, Slice_, Tail, Written, Tree, a_query, slots, patterns, elements, an_element, a_value, a_tail, a_truth, keys, Read, build, slot_in, slots_behind, patterns_of, patterns_behind, patterns_in, group_of, value_in, values_in, truth_in, truths_behind, with_tail, leaf, parts, unions_behind, keys_behind, keys_in}
+use Rattle.fragment_grammar.specs.Grammar.{Kind, sign, Symbol, Query_, Prologue_, Shown_, Prefix_, Group_, Other_, Triples_, Same_, Objs_, Verb_, Term_, Iri_, Literal_, Cond_, Truth_, And_, Rel_, Compared_, Operator_, Values_, Prim_, Atom_, Value_, Fun_, Test_, Order_, Key_, Slice_, Tail, Written, Tree, a_query, slots, patterns, elements, an_element, a_value, a_tail, a_truth, keys, Read, build, slot_in, slots_behind, patterns_of, patterns_behind, patterns_in, group_of, value_in, values_in, truth_in, truths_behind, with_tail, leaf, parts, unions_behind, keys_behind, keys_in}
 use Rattle.fragment_meaning.specs.Translation.{conjunction}
 use Rattle.fragment_queries.specs.Queries.{Numbered, number_all}
 use Rattle.fragment_laws.specs.Numbers.{number, number_in, number-Triples, number-Optional, number-Unions, number-Condition, number_in-opened}
-use Rattle.fragment_queries.specs.Limits.{Place, subject, predicate, object, Role, head, next, text_of, type_of, behind_object, filter, end, order, slice, done, one_if, open_now, behind_bracket, completes, behind_brace}
+use Rattle.fragment_queries.specs.Limits.{Place, subject, predicate, object, Role, next, text_of, type_of, behind_object, filter, end, order, done, one_if, open_now, behind_bracket, completes, behind_brace}
 use Rattle.query_walks.specs.Shapes.{Leaves, leaf_sign, leaf_variable, leaf_iri, leaf_named, leaf_prefix, leaf_string, leaf_tag, leaf_count, leaf_literal, leaf_function, leaf_test, leaf_compare, leaf_direction, Shape, empty, token, symbol, both, either, several, word, maybe, shape}
 use Rattle.query_walks.specs.Walks.{Walks, walk_empty, walk_token, walk_symbol, walk_both, walk_left, walk_right, walk_several}
 use Rattle.query_laws.specs.Connectives.{deepest, connectives, connectives-Value, connectives-Bound, connectives-Compare, connectives-OneOf, connectives-SameTerm, connectives-Is, connectives-Not, connectives-All, connectives-Any, deepest_within}

@@ -1,5 +1,5 @@
 -- What a token does to the count of a text, by what the grammar sees of it.
-use Rattle.std.specs.Prelude.{◌≡◌, ℕ, suc, ◌+◌, ◌-◌, Bool, true, false, ◌&&◌, if◌then◌else◌, List, [], ◌∷◌, ◌++◌, Option, Some, None, refl}
+use Rattle.std.specs.Prelude.{◌≡◌, ℕ, ◌+◌, ◌-◌, Bool, true, false, ◌&&◌, if◌then◌else◌, List, [], ◌∷◌, ◌++◌, Option, Some, None, refl}
 use Rattle.rdf_meaning.specs.Characters.{is_digit}
 use Rattle.rdf_meaning.specs.Terms.{RdfTerm}
 use Rattle.fragment_meaning.specs.declared.token.TokenKind.{TokenKind}

@@ -1,13 +1,13 @@
 -- What the limits of a text say of its query.
-use Rattle.std.specs.Prelude.{◌≡◌, ◌≤◌, ℕ, suc, ◌+◌, Bool, true, nat_le, List, [], ◌∷◌, length, None, refl}
-use Rattle.std.proofs.Common.{sym, ap, ◌∙◌, subst, arith}
+use Rattle.std.specs.Prelude.{◌≡◌, ◌≤◌, ℕ, suc, ◌+◌, true, nat_le, List, [], ◌∷◌, length, None, refl}
+use Rattle.std.proofs.Common.{sym, ap, subst, arith}
 use Rattle.grammar_meaning.specs.Grammar.{Made, Reads, call}
 use Rattle.query_meaning.specs.declared.pattern.Pattern.{Pattern}
 use Rattle.query_meaning.specs.declared.query.Group.{Group}
 use Rattle.query_meaning.specs.declared.query.Query.{Query}
 use Rattle.fragment_meaning.specs.declared.token.Token.{Token}
 use Rattle.fragment_meaning.specs.Translation.{whole, group, translated}
-use Rattle.fragment_grammar.specs.Grammar.{Query_, grammar, a_query, Written, Tree, group_of}
+use Rattle.fragment_grammar.specs.Grammar.{Query_, grammar, a_query, Written, group_of}
 use Rattle.fragment_queries.specs.Lexemes.{lexemes, names}
 use Rattle.fragment_queries.specs.Limits.{first_fault}
 use Rattle.fragment_queries.specs.Queries.{numbered_group, syntax_of, IsQuery, is_query}
@@ -16,7 +16,7 @@ use Rattle.translation_laws.specs.TreePatterns.{tree_patterns, gathered_patterns
 use Rattle.fragment_laws.specs.Within.{few_names}
 use Rattle.fragment_laws.specs.Numbers.{Numbers, number_in, Counted, counted, counted_group}
 use Rattle.query_walks.specs.Shapes.{symbol}
-use Rattle.query_walks.specs.Walks.{Walks, walk_symbol, walked}
+use Rattle.query_walks.specs.Walks.{walk_symbol, walked}
 use Rattle.query_laws.specs.Connectives.{connectives}
 use Rattle.query_laws.specs.Passing.{tree_passes, translated_passes}
 use Rattle.query_laws.specs.Places.{At, left, step, first_place, Moved}

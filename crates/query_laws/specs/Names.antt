@@ -6,11 +6,10 @@ use Rattle.std.specs.Cmp.Lexicographic.{nat_list_eq_equiv}
 use Rattle.std.proofs.Common.{sym, ap, ◌∙◌, subst, arith, length-append}
 use Rattle.std.proofs.lemmas.Bool.{false≢true, lt-ltb, ltb-true}
 use Rattle.bags.specs.BagLaws.{each-append}
-use Rattle.grammar_meaning.specs.Grammar.{Node, Made, Reads, call}
+use Rattle.grammar_meaning.specs.Grammar.{Made, Reads, call}
 use Rattle.rdf_meaning.specs.Characters.{is_digit}
 use Rattle.query_meaning.specs.declared.modifiers.Key.{Key as SortKey}
 use Rattle.query_meaning.specs.declared.query.Group.{Group}
-use Rattle.query_meaning.specs.declared.query.Syntax.{Syntax}
 use Rattle.query_meaning.specs.declared.query.Query.{Query}
 use Rattle.fragment_meaning.specs.declared.token.Token.{Token}
 use Rattle.fragment_meaning.specs.declared.token.TokenKind.{TokenKind}
@@ -22,15 +21,15 @@ use Rattle.fragment_meaning.specs.declared.word.Word.TheVariants as w
 use Rattle.fragment_meaning.specs.Translation.{translated}
 use Rattle.fragment_grammar.specs.declared.lexeme.Lexeme.{Lexeme}
 use Rattle.fragment_grammar.specs.declared.lexeme.Lexeme.TheVariants as l
-use Rattle.fragment_grammar.specs.Grammar.{Query_, grammar, a_query, Written, Tree, Read, group_of}
+use Rattle.fragment_grammar.specs.Grammar.{Query_, grammar, a_query, Written, Tree, group_of}
 use Rattle.fragment_queries.specs.Prefixes.{Declared, Declaring, declaring, declared, nothing}
 use Rattle.fragment_queries.specs.Lexemes.{with_name, named_by, names_from, place_of, variable_number, integer, integer_lexeme, number_of, word_lexeme, mark_lexeme, named_lexeme, base_of, lexeme, lexemes_from, lexemes, names}
 use Rattle.fragment_queries.specs.Queries.{once, shown_of, syntax_of, variables_of, IsQuery, is_query}
 use Rattle.query_walks.specs.Shapes.{symbol}
-use Rattle.query_walks.specs.Walks.{Walks, walk_symbol, Walked, walked, Stepped}
+use Rattle.query_walks.specs.Walks.{Walks, walk_symbol, walked, Stepped}
 use Rattle.query_laws.specs.Within.{pattern_within, truth_within}
 use Rattle.query_laws.specs.Passing.{tree_passes, translated_passes}
-use Rattle.query_laws.specs.Sound.{Below, LexemeWithin, Left, Step, Owes, Of, KeyWithin, ListWithin, GroupWithin, group_within, WrittenWithin, IsWritten, is_written, names_within, each_passes, keeps}
+use Rattle.query_laws.specs.Sound.{Below, LexemeWithin, Left, Step, Owes, KeyWithin, ListWithin, GroupWithin, group_within, WrittenWithin, IsWritten, is_written, names_within, each_passes, keeps}
 
 -- ---- the place of a name
 

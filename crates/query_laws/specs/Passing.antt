@@ -1,5 +1,5 @@
 -- Tests that all patterns and all expressions of a tree pass, and what of a group passes with its translation.
-use Rattle.std.specs.Prelude.{◌≡◌, ℕ, suc, ◌+◌, Bool, true, false, ◌&&◌, if◌then◌else◌, List, [], ◌∷◌, ◌++◌, length, map, Option, Some, None, refl}
+use Rattle.std.specs.Prelude.{◌≡◌, ℕ, suc, Bool, true, false, ◌&&◌, if◌then◌else◌, List, [], ◌∷◌, map, Option, Some, None, refl}
 use Rattle.std.specs.List.{list_all, AllByRecursion}
 use Rattle.std.proofs.Common.{sym, ap, ◌∙◌, subst}
 use Rattle.bags.specs.BagLaws.{each-append}
@@ -16,7 +16,7 @@ use Rattle.query_meaning.specs.declared.query.Element.TheVariants as v
 use Rattle.query_meaning.specs.declared.query.Group.{Group}
 use Rattle.fragment_grammar.specs.Grammar.{group_of}
 use Rattle.fragment_meaning.specs.declared.gathered.Gathered.{Gathered}
-use Rattle.fragment_meaning.specs.Translation.{Leaf, is_empty, joined, with_patterns, conjunction, under, bare, whole, Part, patterns, optional, unions, condition, union_from, gathered, take_part, take_parts, nothing_yet, part, group}
+use Rattle.fragment_meaning.specs.Translation.{Leaf, is_empty, joined, with_patterns, conjunction, under, bare, whole, Part, patterns, optional, unions, condition, union_from, take_part, take_parts, nothing_yet, part, group}
 use Rattle.fragment_queries.specs.Queries.{Numbered, with_number, number_patterns, number_all, numbered_group}
 use Rattle.translation_laws.specs.Parts.{part-Triples, part-Optional, part-Unions, part-Condition, group_opened}
 use Rattle.fragment_laws.specs.Numbers.{number, number_in, number-Triples, number-Optional, number-Unions, number-Condition, number_in-opened}

@@ -1,14 +1,13 @@
 -- Places in a text without a fault, and the steps between them.
-use Rattle.std.specs.Prelude.{◌≡◌, ℕ, ◌+◌, ◌≤◌, Bool, true, false, nat_lt, List, [], ◌∷◌, ◌++◌, length, Option, Some, None, refl}
-use Rattle.std.proofs.Common.{sym, ap, ◌∙◌, subst, arith}
+use Rattle.std.specs.Prelude.{◌≡◌, ℕ, ◌+◌, ◌≤◌, Bool, false, nat_lt, List, [], ◌∷◌, None, refl}
+use Rattle.std.proofs.Common.{ap, ◌∙◌, subst}
 use Rattle.std.proofs.lemmas.Bool.{ltb-false}
 use Rattle.fragment_meaning.specs.declared.token.Token.{Token}
 use Rattle.fragment_meaning.specs.declared.token.TokenKind.{TokenKind}
 use Rattle.fragment_grammar.specs.declared.lexeme.Lexeme.{Lexeme}
-use Rattle.fragment_queries.specs.declared.refusal.QueryLimit.{QueryLimit}
 use Rattle.fragment_queries.specs.declared.refusal.QueryLimit.TheVariants as limits
-use Rattle.fragment_queries.specs.Lexemes.{named_by, lexeme, lexemes_from, lexemes}
-use Rattle.fragment_queries.specs.Limits.{Role, State, nothing_yet, goes_on, one_if, completes, state_after, next_kind, passed, fault_at, fault_from, first_fault, depth_of}
+use Rattle.fragment_queries.specs.Lexemes.{named_by, lexeme, lexemes_from}
+use Rattle.fragment_queries.specs.Limits.{State, nothing_yet, goes_on, one_if, completes, state_after, next_kind, passed, fault_from, first_fault, depth_of}
 use Rattle.fragment_laws.specs.Within.{Within, quiet_now, quiet_later, not_passed, nothing_passed, within_parts, at_first}
 use Rattle.query_walks.specs.Walks.{Stepped}
 use Rattle.query_laws.specs.Effects.{goes_by, after_by, groups_by, keys_by, depth_by, Effect, effect_by, after_is, effect, effect_is}

@@ -1,15 +1,14 @@
 -- Each variable that is read is one of the text's.
-use Rattle.std.specs.Prelude.{◌≡◌, ℕ, Bool, true, false, ◌&&◌, ◌==◌, if◌then◌else◌, nat_lt, List, [], ◌∷◌, ◌++◌, map, Option, Some, None, refl}
-use Rattle.std.specs.List.{list_all, list_any, AllByRecursion}
+use Rattle.std.specs.Prelude.{◌≡◌, ℕ, Bool, true, false, ◌&&◌, nat_lt, List, [], ◌∷◌, ◌++◌, map, Option, Some, None, refl}
+use Rattle.std.specs.List.{AllByRecursion}
 use Rattle.std.proofs.Common.{sym, ap, ◌∙◌, subst}
 use Rattle.std.proofs.lemmas.Bool.{false≢true}
 use Rattle.bags.specs.BagLaws.{each-append}
-use Rattle.grammar_meaning.specs.Grammar.{Node, Nil, Leaf, Pair, Made}
+use Rattle.grammar_meaning.specs.Grammar.{Leaf, Pair, Made}
 use Rattle.rdf_meaning.specs.Terms.{RdfTerm}
 use Rattle.query_meaning.specs.declared.pattern.Slot.{Slot}
 use Rattle.query_meaning.specs.declared.pattern.Slot.TheVariants as slot
 use Rattle.query_meaning.specs.declared.pattern.Pattern.{Pattern}
-use Rattle.query_meaning.specs.declared.expression.CompareOp.{CompareOp}
 use Rattle.query_meaning.specs.declared.expression.ValueExpr.{ValueExpr}
 use Rattle.query_meaning.specs.declared.expression.ValueExpr.TheVariants as values
 use Rattle.query_meaning.specs.declared.expression.TruthExpr.{TruthExpr}
@@ -25,10 +24,10 @@ use Rattle.fragment_grammar.specs.declared.lexeme.Function.{Function}
 use Rattle.fragment_grammar.specs.declared.lexeme.Function.TheVariants as f
 use Rattle.fragment_grammar.specs.declared.lexeme.Lexeme.{Lexeme}
 use Rattle.fragment_grammar.specs.declared.lexeme.Lexeme.TheVariants as l
-use Rattle.fragment_grammar.specs.Grammar.{variable, Symbol, Query_, Prologue_, Shown_, Prefix_, Group_, Other_, Triples_, Same_, Objs_, Verb_, Term_, Iri_, Literal_, Cond_, Truth_, And_, Rel_, Compared_, Operator_, Values_, Prim_, Atom_, Value_, Fun_, Test_, Order_, Key_, Slice_, Tail, compares, one_of, none_of, Written, Tree, nothing_made, a_query, a_list, a_slot, an_iri, a_literal, slots, patterns, elements, an_element, a_value, values as value_list, a_tail, a_truth, keys, a_key, Read, build, slot_in, slots_in, slots_behind, pattern_of, patterns_of, patterns_behind, patterns_in, elements_in, group_of, values_behind, truth_in, truths_behind, with_tail, applied, compared_by, leaf, element_in, parts, unions_behind, variables_behind, keys_behind, keys_in, shown_in}
+use Rattle.fragment_grammar.specs.Grammar.{variable, Symbol, Query_, Prologue_, Shown_, Prefix_, Group_, Other_, Triples_, Same_, Objs_, Verb_, Term_, Iri_, Literal_, Cond_, Truth_, And_, Rel_, Compared_, Operator_, Values_, Prim_, Atom_, Value_, Fun_, Test_, Order_, Key_, Slice_, Tail, compares, one_of, none_of, Written, Tree, a_query, a_list, a_slot, an_iri, a_literal, slots, patterns, elements, an_element, a_value, values as value_list, a_tail, a_truth, keys, a_key, Read, build, slots_behind, patterns_of, patterns_behind, patterns_in, group_of, values_behind, truth_in, truths_behind, with_tail, applied, leaf, parts, unions_behind, variables_behind, keys_behind, keys_in}
 use Rattle.fragment_meaning.specs.Translation.{conjunction}
-use Rattle.fragment_queries.specs.Queries.{element_variables, group_variables, patterns_variables, pattern_variables, slot_variables, joined_lists, variables_of, with_number}
-use Rattle.query_walks.specs.Shapes.{leaf_variable, leaf_sign, leaf_function, leaf_compare, leaf_test, Shape, empty, token, symbol, both, either, several, word, maybe, shape}
+use Rattle.fragment_queries.specs.Queries.{element_variables, group_variables, patterns_variables, pattern_variables, slot_variables, joined_lists, variables_of}
+use Rattle.query_walks.specs.Shapes.{leaf_variable, leaf_sign, leaf_function, leaf_compare, leaf_test, Shape, token, symbol, both, several, word, maybe, shape}
 use Rattle.query_walks.specs.Walks.{Walks, walk_empty, walk_token, walk_symbol, walk_both, walk_left, walk_right, walk_several}
 use Rattle.query_laws.specs.Within.{slot_within, pattern_within, value_within, truth_within, all_true, within-Var, within-Const, within-Str, within-Lang, within-Datatype, within-Value, within-Bound, within-Compare, within-OneOf, within-SameTerm, within-Is, within-Not, within-All, within-Any}
 use Rattle.query_laws.specs.Passing.{both_true, all_pass, Tests, condition_passes, ElementPasses, GroupPasses, triples_pass, optional_passes, unions_pass, condition_pass, group_passes}

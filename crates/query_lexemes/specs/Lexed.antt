@@ -1,5 +1,5 @@
 -- What a loop over tokens keeps: the lexemes so far, and then those of the tokens that are left.
-use Rattle.std.proofs.Common.{ℕ, ◌≡◌, List, [], ◌∷◌, ◌++◌, refl, sym, ap, ◌∙◌, subst, append_assoc, length, arith, Option, Some, None}
+use Rattle.std.proofs.Common.{ℕ, ◌≡◌, List, [], ◌∷◌, ◌++◌, sym, ap, ◌∙◌, subst, append_assoc, length, arith, Option, Some, None}
 use Rattle.std.proofs.lemmas.List.{append-nil}
 use Rattle.fragment_meaning.specs.declared.token.Token.{Token}
 use Rattle.fragment_meaning.specs.declared.token.TokenKind.{TokenKind}

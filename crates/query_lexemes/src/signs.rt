@@ -1,6 +1,6 @@
 //! Words and marks as the grammar sees them.
 
-ghost use Rattle.std.specs.Prelude.{◌≡◌, IfOk, codes};
+ghost use Rattle.std.specs.Prelude.{◌≡◌, IfOk};
 ghost use Rattle.fragment_queries.specs.Lexemes.{boolean, word_lexeme, mark_lexeme};
 ghost use Rattle.fragment_grammar.specs.declared.lexeme.Lexeme.TheVariants as lexemes;
 

@@ -1,16 +1,14 @@
 -- What the first tokens of a list tell of the whole list.
-use Rattle.std.proofs.Common.{ℕ, zero, suc, ◌≡◌, ◌+◌, ◌-◌, ◌≤◌, ◌<◌, List, [], ◌∷◌, ◌++◌, length, take, drop, Option, None, Some, refl, sym, ap, subst, ◌∙◌, arith, append_assoc, length-append}
-use Rattle.std.proofs.lemmas.List.{append_cancel_right, append-nil}
-use Rattle.grammar_meaning.specs.Grammar.{Form, Node, Grammar, Reads, Front}
+use Rattle.std.proofs.Common.{ℕ, zero, suc, ◌≡◌, ◌+◌, ◌-◌, ◌<◌, List, [], ◌∷◌, ◌++◌, length, take, drop, Option, None, Some, refl, sym, ap, subst, ◌∙◌, arith, append_assoc}
+use Rattle.std.proofs.lemmas.List.{append_cancel_right}
+use Rattle.grammar_meaning.specs.Grammar.{Form, Grammar, Front}
 use Rattle.grammar_meaning.specs.Parts.{BreaksFirst}
-use Rattle.grammar_meaning.specs.Frame.{FrontAlone, front_alone}
-use Rattle.grammar_meaning.specs.Laws.{reads_front}
-use Rattle.grammar_paths.specs.Ends.{Ends, ends_here, ends_later, ends_all, ends_trans, reads_shorter, front_ends, ends_le}
+use Rattle.grammar_meaning.specs.Frame.{front_alone}
+use Rattle.grammar_paths.specs.Ends.{Ends, ends_here, ends_later, ends_all, ends_trans, reads_shorter, front_ends}
 use Rattle.fragment_meaning.specs.declared.token.Token.{Token}
-use Rattle.fragment_grammar.specs.declared.lexeme.Lexeme.{Lexeme}
-use Rattle.fragment_queries.specs.Prefixes.{Declared, Declaring, nothing, declaring, declared}
-use Rattle.fragment_queries.specs.Lexemes.{named_by, names_from, lexeme, lexemes_from, lexemes}
-use Rattle.fragment_queries.specs.Limits.{State, FaultAt, Fault, one_later, fault_or, fault_at, fault_from, next_kind, state_after, first_fault, nothing_yet}
+use Rattle.fragment_queries.specs.Prefixes.{Declared, Declaring, declaring, declared}
+use Rattle.fragment_queries.specs.Lexemes.{named_by, lexeme, lexemes_from, lexemes}
+use Rattle.fragment_queries.specs.Limits.{State, FaultAt, Fault, one_later, fault_or, fault_at, fault_from, next_kind, state_after}
 
 -- ---- a front, and what breaks first, with more tokens behind
 

@@ -1,6 +1,6 @@
 -- No query is refused; a text is refused in one way, and what is read is the one query that it is.
-use Rattle.std.proofs.Common.{ℕ, zero, suc, ◌≡◌, ◌+◌, ◌-◌, ◌≤◌, ◌<◌, List, [], ◌∷◌, length, Option, None, Some, Result, Ok, Err, refl, sym, ap, subst, ◌∙◌, arith, inl, inr}
-use Rattle.grammar_meaning.specs.Grammar.{Form, Node, call, Made, Grammar, Reads, Front}
+use Rattle.std.proofs.Common.{ℕ, suc, ◌≡◌, ◌+◌, ◌-◌, ◌≤◌, List, [], ◌∷◌, length, Option, None, Some, Result, Ok, Err, refl, sym, ap, subst, ◌∙◌, arith, inl, inr}
+use Rattle.grammar_meaning.specs.Grammar.{Form, call, Made, Grammar, Reads, Front}
 use Rattle.grammar_meaning.specs.Parts.{BreaksFirst}
 use Rattle.grammar_paths.specs.Ends.{Ends, ends_here, ends_later, ends_trans, ends_either, ends_le, front_ends, front_shorter}
 use Rattle.query_meaning.specs.declared.query.Query.{Query}
@@ -9,14 +9,13 @@ use Rattle.fragment_meaning.specs.Translation.{translated}
 use Rattle.query_cursor.specs.Outcomes.{is_text}
 use Rattle.fragment_meaning.specs.declared.token.Token.{Token}
 use Rattle.fragment_grammar.specs.declared.lexeme.Lexeme.{Lexeme}
-use Rattle.fragment_grammar.specs.Grammar.{Query_, grammar, a_query, Written, Tree}
-use Rattle.fragment_meaning.specs.Cut.{cut}
+use Rattle.fragment_grammar.specs.Grammar.{Query_, grammar, a_query}
 use Rattle.fragment_queries.specs.declared.refusal.QueryRefusal.{QueryRefusal}
 use Rattle.fragment_queries.specs.declared.refusal.QueryRefusal.TheVariants as refusal
 use Rattle.fragment_queries.specs.Lexemes.{lexemes, names}
 use Rattle.fragment_queries.specs.Limits.{FaultAt, first_fault}
-use Rattle.fragment_queries.specs.Queries.{most_bytes, syntax_of, broken_at, faulty_at, NoFaultBefore, IsQuery, is_query, QueryRefused, too_long, bad_place, broken, faulty}
-use Rattle.query_refusals.specs.Outcomes.{ReadsTokens, reads_tokens, ReadsAs, reads_as}
+use Rattle.fragment_queries.specs.Queries.{syntax_of, broken_at, faulty_at, NoFaultBefore, IsQuery, is_query, QueryRefused, too_long, bad_place, broken, faulty}
+use Rattle.query_refusals.specs.Outcomes.{reads_tokens, ReadsAs, reads_as}
 
 abbrev pub QueriesAreNotRefused : Type 0
 QueriesAreNotRefused = (bytes : List ℕ) (q : Query) (r : QueryRefusal) → IsQuery bytes q → QueryRefused bytes r → ⊥

@@ -1,11 +1,10 @@
 -- What the reader answers: how the tokens up to the first fault decide.
-use Rattle.std.proofs.Common.{ℕ, zero, suc, ◌≡◌, ◌+◌, ◌-◌, ◌≤◌, ◌<◌, List, [], ◌∷◌, ◌++◌, length, take, drop, Option, None, Some, Ok, Err, refl, sym, ap, subst, ◌∙◌, arith, append_assoc, length-append}
-use Rattle.std.proofs.lemmas.List.{append-nil, take_all, length-drop, length-take-le}
-use Rattle.grammar_meaning.specs.Grammar.{call, Made, Reads, Front}
+use Rattle.std.proofs.Common.{ℕ, zero, suc, ◌≡◌, ◌+◌, ◌-◌, ◌≤◌, ◌<◌, List, [], ◌∷◌, ◌++◌, length, take, drop, Option, None, Some, Ok, Err, refl, sym, ap, subst, ◌∙◌, arith, length-append}
+use Rattle.std.proofs.lemmas.List.{take_all, length-drop, length-take-le}
+use Rattle.grammar_meaning.specs.Grammar.{call, Made, Front}
 use Rattle.grammar_meaning.specs.Parts.{BreaksFirst}
 use Rattle.grammar_meaning.specs.Laws.{reads_front}
 use Rattle.grammar_paths.specs.Ends.{front_ends, ends_le}
-use Rattle.rdf_meaning.specs.declared.text.Text.{Text}
 use Rattle.query_meaning.specs.declared.query.Syntax.{Syntax}
 use Rattle.fragment_meaning.specs.declared.token.Token.{Token}
 use Rattle.fragment_meaning.specs.Cut.{cut}
@@ -18,8 +17,7 @@ use Rattle.fragment_queries.specs.Prefixes.{nothing}
 use Rattle.fragment_queries.specs.Lexemes.{lexemes, names}
 use Rattle.fragment_queries.specs.Limits.{FaultAt, first_fault, nothing_yet}
 use Rattle.fragment_queries.specs.Queries.{most_bytes, syntax_of, broken_at, faulty_at, NoFaultBefore, QueryRefused, too_long, bad_place, broken, faulty}
-use Rattle.query_cursor.specs.Outcomes.{IsText, is_text, Rejects, rejects_memory, rejects_at}
-use Rattle.query_cursor.specs.declared.refusal.Refusal.{Refusal}
+use Rattle.query_cursor.specs.Outcomes.{IsText, is_text, Rejects, rejects_at}
 use Rattle.query_cursor.specs.declared.refusal.Refusal.TheVariants as inner
 use Rattle.query_refusals.specs.Fronts.{front_longer, breaks_longer, lexemes_apart, lexemes_count, fault_within}
 

@@ -2,7 +2,7 @@
 
 ghost use Rattle.std.specs.Prelude.{◌≡◌, ◌≤◌, length};
 ghost use Rattle.std.specs.Option.{option_copied, option_map};
-ghost use Rattle.fragment_queries.specs.Queries.{place_behind, kind_behind, kind_before, named_or_syntax, feature_behind, broken_at, faulty_at};
+ghost use Rattle.fragment_queries.specs.Queries.{place_behind, kind_behind, kind_before, feature_behind, broken_at, faulty_at};
 ghost use Rattle.fragment_queries.specs.Limits.{first_fault};
 ghost use Rattle.query_faults.specs.Faults.{fault_of, fault_at_of};
 ghost use Rattle.query_refusals.specs.Outcomes.{read_front, refusal_by};

@@ -1,5 +1,5 @@
 -- The variables of triple patterns, element by element.
-use Rattle.std.proofs.Common.{ℕ, ◌≡◌, Bool, true, false, ◌==◌, List, [], ◌∷◌, ◌++◌, map, refl, sym, ap, ◌∙◌, if◌then◌else◌, ◌+◌, suc, ◌<◌, length, drop, get_or, arith}
+use Rattle.std.proofs.Common.{ℕ, ◌≡◌, ◌==◌, List, [], ◌∷◌, ◌++◌, map, refl, sym, ap, ◌∙◌, if◌then◌else◌, ◌+◌, suc, ◌<◌, length, drop, get_or, arith}
 use Rattle.std.specs.List.{list_any}
 use Rattle.std.proofs.Math.Seq.{drop-cons}
 use Rattle.query_meaning.specs.declared.pattern.Pattern.{Pattern}
@@ -7,7 +7,7 @@ use Rattle.query_meaning.specs.declared.expression.TruthExpr.{TruthExpr}
 use Rattle.query_meaning.specs.declared.query.Element.{Element, fold-Element, fold-roll-Element}
 use Rattle.query_meaning.specs.declared.query.Element.TheVariants as e
 use Rattle.query_meaning.specs.declared.query.Element.TheOpen as layer
-use Rattle.query_meaning.specs.declared.query.Group.{Group, fold-Group, fold_out-Group}
+use Rattle.query_meaning.specs.declared.query.Group.{Group, fold_out-Group}
 use Rattle.fragment_queries.specs.Queries.{once, patterns_variables, joined_lists, element_variables, group_variables, variables_of}
 
 abbrev pub part_variables : Element → List ℕ

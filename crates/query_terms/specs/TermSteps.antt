@@ -1,24 +1,19 @@
 -- The steps of the readers of terms.
-use Rattle.std.proofs.Common.{Bool, true, false, IsTrue, List, [], ◌∷◌, ◌++◌, ◌≡◌, ◌≤◌, length, map, ℕ, refl, ap, subst, sym, arith, append_assoc, ◌∙◌}
-use Rattle.std.proofs.lemmas.List.{append-nil}
-use Rattle.grammar_meaning.specs.Grammar.{Form, nothing, one, call, ◌⨾◌, ◌∣◌, many, maybe, Node, Nil, Leaf, Pair, Made, Grammar, Reads, Front, front_empty}
-use Rattle.grammar_meaning.specs.Outcome.{Begins, Most, Lags, Got, Broke, Lookahead, NotBegun, fits, implies, or, and, first, nullable}
-use Rattle.grammar_meaning.specs.Laws.{reads_le}
-use Rattle.grammar_meaning.specs.Exact.{got_one, got_nothing, got_call, got_then, got_left, got_right, got_many, broke_call, broke_none, broke_first, broke_rest, broke_left, broke_right, broke_many, lags_none, lags_most, lags_near, most_lags, lags_wide, most_wide, lags_nothing, most_or, lags_or, most_call, lags_call, most_then, lags_first, lags_rest}
-use Rattle.grammar_meaning.specs.Parts.{got_wide, broke_wide, lags_aside, got_left_only, got_right_only, broke_left_only, broke_right_only, got_some, broke_some, got_skip, got_more, got_end, broke_now, broke_later, Along, along_step, along_end, along_stop}
+use Rattle.std.proofs.Common.{List, [], ◌∷◌, length, ℕ, refl}
+use Rattle.grammar_meaning.specs.Grammar.{Form, call, ◌⨾◌, ◌∣◌}
+use Rattle.grammar_meaning.specs.Exact.{got_call, got_then, broke_call, broke_none, broke_rest}
+use Rattle.grammar_meaning.specs.Parts.{got_wide, broke_wide, got_left_only, got_right_only, broke_left_only, broke_right_only, got_some, broke_some, got_skip}
 use Rattle.rdf_meaning.specs.Terms.{RdfTerm, iri as iri_term, typed, tagged}
-use Rattle.query_meaning.specs.declared.pattern.Slot.{Slot}
 use Rattle.query_meaning.specs.declared.pattern.Slot.TheVariants as slot
-use Rattle.query_meaning.specs.declared.pattern.Pattern.{Pattern}
 use Rattle.fragment_grammar.specs.declared.lexeme.Lexeme.{Lexeme}
 use Rattle.fragment_grammar.specs.declared.lexeme.Lexeme.TheVariants as l
 use Rattle.fragment_grammar.specs.declared.lexeme.Sign.{Sign}
 use Rattle.fragment_grammar.specs.declared.lexeme.Sign.TheVariants as s
-use Rattle.fragment_grammar.specs.Grammar.{Kind, sign, variable, iri, named, prefix_name, string, tag, count, literal, function, test, compare, direction, kind, is, among, mark, word, Symbol, rule, grammar, Tree, Read}
+use Rattle.fragment_grammar.specs.Grammar.{Kind, sign, variable, iri, named, prefix_name, string, tag, count, literal, among, mark, word, Symbol}
 use Rattle.fragment_grammar.specs.Table.{look, begins, after}
-use Rattle.query_cursor.specs.Outcomes.{Gets, gets, got, Breaks, breaks, broke, Stops, stops_memory, stops_at, handed, IsNot, NoneOf, SomeOf, or_false, not_first, not_kind, not_then, not_again, not_begun, apart, ahead, token}
+use Rattle.query_cursor.specs.Outcomes.{Gets, gets, got, breaks, broke, Stops, stops_memory, stops_at, handed, IsNot, NoneOf, SomeOf, not_first, not_kind, not_begun, apart, token}
 use Rattle.query_cursor.specs.declared.refusal.Refusal.{Refusal}
-use Rattle.query_cursor.specs.declared.refusal.Refusal.TheVariants.{NoMemory, Syntax}
+use Rattle.query_cursor.specs.declared.refusal.Refusal.TheVariants.{Syntax}
 use Rattle.fragment_grammar.specs.Grammar.{Iri_, Literal_, Term_, Verb_, an_iri, a_literal, a_slot, plain, rdf_type}
 
 pub iri_written : (i : List ℕ) (us : List Lexeme) → Gets Iri_ (l.Iri i ∷ us) (an_iri i) us

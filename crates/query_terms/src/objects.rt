@@ -1,6 +1,6 @@
 //! Objects of one predicate, and the patterns of one subject.
 
-ghost use Rattle.std.specs.Prelude.{IfOk, IfErr, ◌≡◌, ◌<◌, length, map, zero};
+ghost use Rattle.std.specs.Prelude.{IfOk, IfErr, ◌≡◌, ◌<◌, length};
 ghost use Rattle.fragment_grammar.specs.Grammar.{Objs_, slots, pattern_of, patterns_of};
 ghost use Rattle.query_cursor.specs.Outcomes.{Gets, Stops};
 

@@ -1,5 +1,5 @@
 -- The rules of the grammar with the kind of each token in plain sight, and what a token of a kind is.
-use Rattle.std.specs.Prelude.{ℕ, Bool, List, [], ◌∷◌, ◌≡◌, ◌==◌, IsTrue, Option, Some, None, refl}
+use Rattle.std.specs.Prelude.{ℕ, Bool, List, [], ◌∷◌, ◌≡◌, ◌==◌, IsTrue, Some, refl}
 use Rattle.std.proofs.Common.{sym, ap, subst, ◌∙◌, slice_get, arith}
 use Rattle.grammar_meaning.specs.Grammar.{Form, nothing, one, call, ◌⨾◌, ◌∣◌, many}
 use Rattle.rdf_meaning.specs.Terms.{RdfTerm}

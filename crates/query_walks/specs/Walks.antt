@@ -1,7 +1,7 @@
 -- What is read, walked through token by token: a walk goes from place to place, and each symbol on the way keeps what it owes.
 use Rattle.std.proofs.Common.{ap, subst}
-use Rattle.std.specs.Prelude.{Bool, IsTrue, List, [], ◌∷◌, ◌≡◌, refl}
-use Rattle.grammar_meaning.specs.Grammar.{Form, nothing, one, call, ◌⨾◌, ◌∣◌, many, Node, Nil, Leaf, Pair, Made, Reads, read_nothing, read_one, read_rule, read_both, read_left, read_right, read_many}
+use Rattle.std.specs.Prelude.{Bool, IsTrue, List, ◌∷◌, ◌≡◌, refl}
+use Rattle.grammar_meaning.specs.Grammar.{Form, nothing, one, call, ◌⨾◌, ◌∣◌, many, Nil, Leaf, Pair, Made, Reads, read_nothing, read_one, read_rule, read_both, read_left, read_right, read_many}
 use Rattle.fragment_grammar.specs.declared.lexeme.Lexeme.{Lexeme}
 use Rattle.fragment_grammar.specs.Grammar.{Kind, kind, is, rule, Symbol, Tree, Read, build, grammar}
 use Rattle.query_walks.specs.Shapes.{Leaves, leaf_is, Shape, empty, token, symbol, both, either, several, form, shape, rule_form}

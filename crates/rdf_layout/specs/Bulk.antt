@@ -1,5 +1,5 @@
 -- Triples that are put in one after another: what a store of them holds, and the first one that is refused (this project's own).
-use Rattle.std.specs.Prelude.{◌≡◌, ℕ, ◌≤◌, nat_le, nat_lt, if◌then◌else◌, List, [], ◌∷◌, ◌++◌, fold, length, Option, Some, None}
+use Rattle.std.specs.Prelude.{◌≡◌, ◌≤◌, nat_le, nat_lt, if◌then◌else◌, List, [], ◌∷◌, ◌++◌, fold, length, Option, Some, None}
 use Rattle.std.specs.List.{list_any}
 use Rattle.bags.specs.Bag.{SameBag}
 use Rattle.rdf_meaning.specs.Terms.{RdfTriple, same_triple}

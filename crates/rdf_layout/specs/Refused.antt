@@ -1,5 +1,5 @@
 -- When a store refuses a triple.
-use Rattle.std.specs.Prelude.{◌≡◌, ◌⊎◌, ℕ, ◌+◌, ◌^◌, ◌≤◌, ◌<◌, Bool, false, if◌then◌else◌, length}
+use Rattle.std.specs.Prelude.{◌≡◌, ◌⊎◌, ◌+◌, ◌^◌, ◌≤◌, ◌<◌, Bool, false, if◌then◌else◌, length}
 use Rattle.rdf_meaning.specs.Terms.{RdfTriple}
 use Rattle.primary_rows.specs.declared.side.SideRefusal.{SideRefusal}
 use Rattle.primary_rows.specs.declared.side.SideRefusal.TheVariants as of

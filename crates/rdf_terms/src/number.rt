@@ -1,10 +1,10 @@
 //! Numbers as literals write them.
 #![tactic(auto, using(crate::proofs::Numbers::below_none, crate::proofs::Numbers::below_next, crate::proofs::Numbers::trailing_zero, crate::proofs::Numbers::trailing_other, crate::proofs::Numbers::below_eighteen, crate::proofs::Numbers::zeros_count_nothing))]
 
-ghost use Rattle.std.specs.Prelude.{◌≡◌, ◌+◌, ◌-◌, ◌*◌, ◌^◌, ◌<◌, ◌≤◌, ◌++◌, ℕ, length, take, drop, replicate, Option, Some, None, IsTrue, IsSome, slice_index};
+ghost use Rattle.std.specs.Prelude.{◌≡◌, ◌+◌, ◌-◌, ◌*◌, ◌^◌, ◌<◌, ◌≤◌, ◌++◌, length, take, replicate, Option, Some, None, slice_index};
 ghost use Rattle.std.specs.List.{prefix_len, list_all};
 ghost use Rattle.rdf_meaning.specs.Characters.{is_digit};
-ghost use Rattle.rdf_meaning.specs.Values.{Numeral, has_minus, without_sign, is_zero, without_leading_zeros, without_trailing_zeros, number_of_digits, is_in_width, value_of_numeral, integer_numeral, decimal_numeral, signed};
+ghost use Rattle.rdf_meaning.specs.Values.{has_minus, without_sign, is_zero, without_leading_zeros, without_trailing_zeros, number_of_digits, integer_numeral, decimal_numeral, signed};
 ghost use Rattle.rdf_terms.specs.Ranks.{rank_of_numeral};
 
 /// The class and the value of a literal whose datatype has values.

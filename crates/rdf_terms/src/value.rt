@@ -3,7 +3,7 @@
 ghost use Rattle.std.specs.Prelude.{◌≡◌, ◌↔◌, ◌⊎◌, IsSome};
 ghost use Rattle.std.specs.Str.{bytes_eq};
 ghost use Rattle.rdf_meaning.specs.Known.{known_bytes};
-ghost use Rattle.rdf_meaning.specs.Values.{class_of, value_of, class_of_typed, value_of_typed};
+ghost use Rattle.rdf_meaning.specs.Values.{class_of, value_of};
 ghost use Rattle.rdf_terms.specs.Ranks.{rank_of_typed, rank_of_truth};
 ghost use Rattle.rdf_meaning.specs.Values.{truth_of_text};
 

@@ -1,7 +1,7 @@
 -- The limits on the triples that are present and on the terms of the dictionary.
-use Rattle.std.specs.Prelude.{ℕ, Bool, ◌+◌, nat_lt, if◌then◌else◌, List, [], ◌∷◌, ◌++◌, length, fold, Option, Some, None}
+use Rattle.std.specs.Prelude.{◌+◌, nat_lt, if◌then◌else◌, List, [], ◌∷◌, ◌++◌, length, fold, Option, Some, None}
 use Rattle.std.specs.List.{list_any}
-use Rattle.rdf_meaning.specs.Terms.{RdfTerm, RdfTriple, same_term}
+use Rattle.rdf_meaning.specs.Terms.{RdfTerm, same_term}
 use Rattle.line_meaning.specs.declared.change.Change.{Change}
 use Rattle.line_meaning.specs.declared.change.Change.TheVariants.{Add, Delete}
 use Rattle.line_meaning.specs.Present.{is_present, present}

@@ -1,6 +1,5 @@
 -- The term of an id.
-use Rattle.std.proofs.Common.{◌≡◌, ℕ, ◌+◌, ◌≤◌, ◌==◌, ◌||◌, Bool, true, false, if◌then◌else◌, List, [], ◌∷◌, refl, sym, ap, ◌∙◌, arith}
-use Rattle.std.specs.List.{list_any}
+use Rattle.std.proofs.Common.{◌≡◌, ℕ, ◌+◌, ◌≤◌, ◌==◌, ◌||◌, Bool, true, false, if◌then◌else◌, List, [], ◌∷◌, refl, ap, ◌∙◌, arith}
 use Rattle.bags.specs.Bag.{total}
 use Rattle.rdf_meaning.specs.Terms.{RdfTerm, same_term}
 use Rattle.rdf_meaning.specs.TermLaws.{same_term-self}

@@ -1,5 +1,5 @@
 -- A script with places has the rows of the script with names.
-use Rattle.std.specs.Prelude.{◌≡◌, ◌⊎◌, ℕ, zero, suc, ◌+◌, Bool, true, false, if◌then◌else◌, List, [], ◌∷◌, ◌++◌, map, length, Option, Some, None, is_some, refl, Ok, Err}
+use Rattle.std.specs.Prelude.{◌≡◌, ◌⊎◌, ℕ, suc, ◌+◌, Bool, true, false, if◌then◌else◌, List, [], ◌∷◌, ◌++◌, map, length, Option, Some, None, is_some, refl, Ok}
 use Rattle.std.proofs.Common.{sym, ap, ap₂, ◌∙◌, subst, arith, inl, inr}
 use Rattle.std.proofs.Math.Path.{fun_ext}
 use Rattle.std.proofs.lemmas.Bool.{cases_Bool, both_ways}
@@ -11,14 +11,11 @@ use Rattle.table_meaning.specs.declared.cell.Cell.{Cell}
 use Rattle.table_meaning.specs.Schemas.{column_names}
 use Rattle.table_meaning.specs.Tables.{NamedTable}
 use Rattle.sql_meaning.specs.declared.script.Core.{Core}
-use Rattle.sql_meaning.specs.declared.script.Body.{Body}
 use Rattle.sql_meaning.specs.declared.script.Step.{Step}
 use Rattle.sql_meaning.specs.declared.script.Script.{Script}
-use Rattle.sql_rows_meaning.specs.declared.fault.Fault.{Fault}
-use Rattle.sql_rows_meaning.specs.declared.fault.FaultKind.{FaultKind}
 use Rattle.sql_rows_meaning.specs.declared.fault.FaultKind.TheVariants.{Twice}
 use Rattle.sql_rows_meaning.specs.declared.schema.NamedSchema.{NamedSchema}
-use Rattle.sql_rows_meaning.specs.Faults.{Checked, and_then, unless, in_select}
+use Rattle.sql_rows_meaning.specs.Faults.{unless, in_select}
 use Rattle.sql_rows_meaning.specs.Scopes.{Schemas, with_schema, schemas_of, schemas_in}
 use Rattle.sql_rows_meaning.specs.Binding.{check_select, check_others, check_body, check_step_body, check_steps, check_script}
 use Rattle.sql_rows_meaning.specs.Tables.{Relation, Relations, with_relation, relations_of}
@@ -29,7 +26,6 @@ use Rattle.sql_rows_laws.specs.SourceLaws.{unless-fine, unless-false}
 use Rattle.sql_rows_laws.specs.SelectLaws.{select-names}
 use Rattle.sql_rows_laws.specs.ScriptLaws.{in_select-is, others-first}
 use Rattle.sql_rows_laws.specs.KindLaws.{fine-same}
-use Rattle.bound_scripts.specs.declared.script.BoundBody.{BoundBody}
 use Rattle.bound_scripts.specs.Sources.{relation_rows}
 use Rattle.bound_scripts.specs.Selects.{bound_select_rows}
 use Rattle.bound_scripts.specs.Rows.{table_relations, bound_body_rows, after_bound_steps, bound_rows}

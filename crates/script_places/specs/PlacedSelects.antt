@@ -3,7 +3,7 @@ use Rattle.std.specs.Prelude.{◌≡◌, ℕ, zero, suc, ◌+◌, ◌<◌, ◌�
 use Rattle.std.proofs.Common.{sym, ap, ap₂, ◌∙◌, arith}
 use Rattle.std.proofs.Math.Path.{fun_ext}
 use Rattle.std.proofs.lemmas.Option.{slice_get_past}
-use Rattle.std.specs.List.{flat_map, filter, AllByRecursion}
+use Rattle.std.specs.List.{flat_map, AllByRecursion}
 use Rattle.std.specs.Str.{bytes_eq}
 use Rattle.std.specs.declared.cmp.Ordering.{Ordering}
 use Rattle.bags.specs.Sort.{sort, by_items}
@@ -28,13 +28,12 @@ use Rattle.sql_rows_meaning.specs.Selects.{passed, key_cells, key_order, item_ce
 use Rattle.bound_scripts.specs.declared.expression.BoundExpr.{BoundExpr}
 use Rattle.bound_scripts.specs.declared.expression.BoundExpr.TheVariants as v
 use Rattle.bound_scripts.specs.declared.script.BoundJoin.{BoundJoin}
-use Rattle.bound_scripts.specs.declared.script.BoundKey.{BoundKey}
 use Rattle.bound_scripts.specs.Values.{Picked, cell_in, row_in, bound_value}
 use Rattle.bound_scripts.specs.ValueLaws.{bound_value-Cell, bound_value-Null}
 use Rattle.bound_scripts.specs.Sources.{relation_rows, with_picked, with_each, bound_where_true, or_empty, bound_joined_to, bound_all_joined, bound_first_rows}
 use Rattle.bound_scripts.specs.Selects.{bound_passed, bound_key_cells, bound_downs, bound_key_order, bound_item_cells, bound_sources, bound_sorted, bound_select_rows}
-use Rattle.script_places.specs.Places.{Places, column_place, places_of, place, number_of, or_no_columns, source_in, first_sources, all_sources, place_from, place_joins, place_items, place_condition, place_keys, core_places, place_core}
-use Rattle.script_places.specs.PlacedValues.{IsPlacedAt, value-placed}
+use Rattle.script_places.specs.Places.{Places, column_place, places_of, place, number_of, or_no_columns, source_in, first_sources, all_sources, place_from, place_joins, place_items, place_condition, place_keys, place_core}
+use Rattle.script_places.specs.PlacedValues.{value-placed}
 
 -- ---- lists
 

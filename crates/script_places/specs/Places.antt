@@ -9,7 +9,6 @@ use Rattle.sql_meaning.specs.declared.expression.SqlExpr.TheOpen.{SqlExpr-F}
 use Rattle.sql_meaning.specs.declared.expression.Branch.{Branch, Branch-F, fold-Branch}
 use Rattle.sql_meaning.specs.declared.script.Script.{Script}
 use Rattle.sql_meaning.specs.declared.script.Step.{Step}
-use Rattle.sql_meaning.specs.declared.script.Body.{Body}
 use Rattle.sql_meaning.specs.declared.script.Core.{Core}
 use Rattle.sql_meaning.specs.declared.script.Item.{Item}
 use Rattle.sql_meaning.specs.declared.script.Source.{Source}

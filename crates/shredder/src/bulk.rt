@@ -1,6 +1,6 @@
 //! Items, and the side that is made of them.
 
-ghost use Rattle.std.specs.Prelude.{◌≡◌, ◌≤◌, ℕ, List, length, map, IfOk, OnOk};
+ghost use Rattle.std.specs.Prelude.{◌≡◌, ◌≤◌, length, map, IfOk, OnOk};
 ghost use Rattle.std.specs.List.{AllByRecursion};
 ghost use Rattle.bags.specs.Sort.{sort};
 ghost use Rattle.layout_meaning.specs.Rows.{placed_in};

@@ -1,5 +1,5 @@
 -- What stands of a cut behind the place that a loop has come to.
-use Rattle.std.proofs.Common.{◌≡◌, ℕ, zero, suc, ◌+◌, ◌-◌, ◌<◌, ◌≤◌, Bool, true, false, not, List, [], ◌∷◌, ◌++◌, length, take, drop, Option, Some, None, Result, Ok, Err, refl, sym, ap, ◌∙◌, subst, arith, zero-add, append_assoc, length-append, ◌==◌, if◌then◌else◌, encode_utf8_all}
+use Rattle.std.proofs.Common.{◌≡◌, ℕ, zero, suc, ◌+◌, ◌-◌, ◌<◌, ◌≤◌, Bool, true, false, not, List, [], ◌∷◌, ◌++◌, length, take, drop, Some, None, Result, Ok, Err, refl, sym, ap, ◌∙◌, arith, zero-add, append_assoc, length-append, ◌==◌, if◌then◌else◌, encode_utf8_all}
 use Rattle.std.proofs.lemmas.Bool.Decides.{nat_tests}
 use Rattle.std.proofs.lemmas.List.{append-nil, take_all, length-take-le}
 use Rattle.std.proofs.lemmas.Str.{length-encode, utf8_valid_len-IsUtf8, utf8_valid_len_le, encodes-chars}
@@ -11,7 +11,7 @@ use Rattle.fragment_meaning.specs.declared.token.Found.{Found}
 use Rattle.fragment_meaning.specs.Classes.{is_blank, ends_line}
 use Rattle.fragment_meaning.specs.Tokens.{token_at}
 use Rattle.fragment_meaning.specs.Cut.{size, cut_from, cut_token, chars_left, first_then, token_from, cut, cut_sound, sound_front}
-use Rattle.sparql_tokens.specs.Pieces.{before, StartsToken, IsBadCut, IsWithin}
+use Rattle.sparql_tokens.specs.Pieces.{before, StartsToken, IsWithin}
 
 size_cons : (c : ℕ) (cs : List ℕ) → size (c ∷ cs) ≡ len_utf8 c + size cs
 size_cons c cs = length-append (encode_utf8 c) (encode_utf8_all cs) ∙ ap (λ n. n + size cs) (length-encode c)

@@ -1,7 +1,6 @@
 //! A text cut into its tokens.
 
 ghost use Rattle.std.specs.Prelude.{◌≡◌, ◌≤◌, ◌<◌, ◌+◌, ◌^◌, length, take, false, chars, IfOk, IfErr};
-ghost use Rattle.std.specs.Str.Lossy.{utf8_valid_len};
 ghost use Rattle.fragment_meaning.specs.Cut.{cut, cut_from, size, sound_front};
 ghost use Rattle.sparql_tokens.specs.Nameless.{IsEnd};
 ghost use Rattle.sparql_tokens.specs.Pieces.{IsBadCut, StartsToken};

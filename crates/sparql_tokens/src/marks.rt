@@ -1,6 +1,6 @@
 //! Marks.
 
-ghost use Rattle.std.specs.Prelude.{◌≡◌, ◌≤◌, length, IfSome, Some, None};
+ghost use Rattle.std.specs.Prelude.{◌≡◌, length, IfSome, Some, None};
 ghost use Rattle.fragment_meaning.specs.Tokens.{head, mark_at, mark_of_one, mark_of_two};
 ghost use Rattle.sparql_tokens.specs.Pieces.{IsWithin};
 

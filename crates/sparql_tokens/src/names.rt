@@ -3,7 +3,7 @@
 ghost use Rattle.std.specs.Prelude.{◌≡◌, ◌≤◌, ◌<◌, ◌+◌, length, IsTrue, map, IfOk, IfSome, None, encode_utf8_all};
 ghost use Rattle.std.specs.List.{filter};
 ghost use Rattle.rdf_meaning.specs.Characters.{is_letter};
-ghost use Rattle.fragment_meaning.specs.Tokens.{blank_at, first_tag_len, head, is_no_backslash, label_len, later_tag_len, local_len, lower, name_len, named_at, name_or_word, part_len, tag_at, tag_len, tag_tail_len, to_colon, variable_at, word_at};
+ghost use Rattle.fragment_meaning.specs.Tokens.{blank_at, head, is_no_backslash, label_len, later_tag_len, local_len, lower, name_len, named_at, name_or_word, part_len, tag_at, tag_len, tag_tail_len, to_colon, variable_at, word_at};
 ghost use Rattle.sparql_tokens.specs.Nameless.{IsEnd, IsNameless};
 ghost use Rattle.sparql_tokens.specs.Pieces.{IsWithin};
 ghost use Rattle.sparql_tokens.specs.Table.{goes_on};

@@ -1,7 +1,7 @@
 //! IRIs and texts.
 
 ghost use Rattle.std.specs.Prelude.{◌≡◌, ◌≤◌, ◌+◌, ◌<◌, ◌∷◌, [], length, IsTrue, IfOk, IfSome};
-ghost use Rattle.fragment_meaning.specs.Tokens.{allowed, body_at, closing, escape_in, has_short_escapes, iri_of, long_text_of, may_stand_for, quoted_at, stands, starts_with, text_of};
+ghost use Rattle.fragment_meaning.specs.Tokens.{body_at, closing, escape_in, has_short_escapes, iri_of, may_stand_for, quoted_at, stands, starts_with, text_of};
 ghost use Rattle.fragment_meaning.specs.declared.token.Quoting.TheVariants as quoting;
 ghost use Rattle.sparql_tokens.specs.Pieces.{IsWithin, piece};
 

@@ -1,5 +1,5 @@
 -- Spelled characters of IRIs and texts.
-use Rattle.std.proofs.Common.{◌≡◌, ◌<◌, ◌≤◌, ℕ, ◌+◌, ◌*◌, ◌/◌, ◌%◌, ◌⊎◌, inl, inr, Bool, true, false, cond, eqb, List, [], ◌∷◌, ◌++◌, refl, sym, ap, ◌∙◌, subst, arith, append-nil, lit<, ltb}
+use Rattle.std.proofs.Common.{◌≡◌, ◌<◌, ◌≤◌, ℕ, ◌+◌, ◌*◌, ◌/◌, ◌%◌, ◌⊎◌, inl, inr, Bool, true, false, cond, eqb, List, [], ◌∷◌, ◌++◌, refl, sym, ap, ◌∙◌, arith, append-nil, lit<, ltb}
 use Rattle.std.specs.Prelude.{Some, None, codes, nat_lt}
 use Rattle.std.specs.Cmp.{first_so, second_so}
 use Rattle.std.specs.List.{flat_map}
@@ -12,8 +12,8 @@ use Rattle.std.proofs.lemmas.Grind.{flat_map-append}
 use Rattle.std.proofs.lemmas.Str.Ascii.{IsAscii-nil, IsAscii-cons}
 use Rattle.rdf_meaning.specs.Spelling.{is_escaped, hex_digit, spelled_iri_byte, spelled_text_byte}
 use Rattle.line_meaning.specs.declared.enclosure.Enclosure.TheVariants.{Iri, Text}
-use Rattle.line_meaning.specs.Characters.{stands_raw, hex_from, is_scalar}
-use Rattle.line_meaning.specs.Grammar.{SpellsCharacter, SpellsCharacters, SpellsRaw, SpellsShort, SpellsCode}
+use Rattle.line_meaning.specs.Characters.{hex_from, is_scalar}
+use Rattle.line_meaning.specs.Grammar.{SpellsCharacter, SpellsCharacters}
 
 -- a hexadecimal digit is read as its number
 digit_back : (n : ℕ) → n < 16 → digit_value (hex_digit n) ≡ n

@@ -1,6 +1,6 @@
 -- Spelled terms are in the grammar.
-use Rattle.std.proofs.Common.{◌≡◌, ◌<◌, ℕ, ◌⊎◌, inl, inr, Bool, true, false, cond, eqb, not, ◌&&◌, ◌||◌, List, [], ◌∷◌, ◌++◌, map, refl, sym, ap, ◌∙◌, subst, arith, append-nil, lit<, IsTrue}
-use Rattle.std.specs.Prelude.{encode_utf8_all, codes}
+use Rattle.std.proofs.Common.{◌≡◌, ◌<◌, ℕ, inl, inr, Bool, true, false, cond, eqb, not, ◌&&◌, ◌||◌, List, [], ◌∷◌, ◌++◌, map, refl, sym, ap, ◌∙◌, arith, append-nil, lit<}
+use Rattle.std.specs.Prelude.{codes}
 use Rattle.std.specs.Cmp.{first_so, second_so}
 use Rattle.std.specs.List.{flat_map}
 use Rattle.std.specs.Str.{IsUtf8, IsAscii, chars, bytes_eq}
@@ -12,13 +12,12 @@ use Rattle.rdf_meaning.specs.declared.kind.TermKind.TheVariants as kinds
 use Rattle.rdf_meaning.specs.declared.text.KnownDatatype.TheVariants.{String}
 use Rattle.rdf_meaning.specs.Known.{known_bytes}
 use Rattle.rdf_meaning.specs.Characters.{is_small_letter, is_digit}
-use Rattle.rdf_meaning.specs.Terms.{RdfTerm, iri, blank, typed, tagged, is_empty, is_label, is_label_of, is_tag, goes_on_as_tag, is_term, can_be_subject}
-use Rattle.rdf_meaning.specs.Spelling.{spelled_iri_byte, iri_spelling, spelled_text_byte, text_spelling, datatype_spelling, spelling_of_kind, spelling}
-use Rattle.line_meaning.specs.declared.enclosure.Enclosure.{Enclosure}
+use Rattle.rdf_meaning.specs.Terms.{blank, typed, tagged, is_empty, is_label, is_label_of, is_tag, goes_on_as_tag, is_term, can_be_subject}
+use Rattle.rdf_meaning.specs.Spelling.{spelled_iri_byte, iri_spelling, spelled_text_byte, text_spelling, spelling_of_kind}
 use Rattle.line_meaning.specs.declared.enclosure.Enclosure.TheVariants.{Iri, Text}
-use Rattle.line_meaning.specs.Characters.{lower, close_of}
-use Rattle.line_meaning.specs.Grammar.{SpellsCharacters, Encloses, open_of, SpellsIri, SpellsBlank, SpellsPlain, SpellsTagged, SpellsTyped, SpellsSubject, SpellsLiteral, SpellsObject}
-use Rattle.spelling_laws.specs.RoundTrip.{IsFine, ObjectsAreRead, SubjectsAreRead, PredicatesAreRead}
+use Rattle.line_meaning.specs.Characters.{lower}
+use Rattle.line_meaning.specs.Grammar.{Encloses, SpellsIri, SpellsBlank, SpellsTagged, SpellsSubject, SpellsLiteral, SpellsObject}
+use Rattle.spelling_laws.specs.RoundTrip.{ObjectsAreRead, SubjectsAreRead, PredicatesAreRead}
 use Rattle.spelling_laws.proofs.Characters.{Small, small_ascii, spelled_utf8, spelled_chars, iri_small, iri_high, iri_spelled, text_small, text_high, text_spelled}
 
 one_utf8 : (c : ℕ) → c < 128 → IsUtf8 (c ∷ [])

@@ -15,7 +15,7 @@ use Rattle.sql_meaning.specs.declared.token.Placed.{Placed}
 use Rattle.sql_meaning.specs.declared.script.SqlKey.{SqlKey}
 use Rattle.sql_meaning.specs.declared.script.Core.{Core}
 use Rattle.sql_cursor.specs.Table.{look, NoneOf, SomeOf, parts_after, body_after}
-use Rattle.sql_cursor.specs.Outcomes.{First, first_is, Reading, reading, got, Fault, fault_memory, fault_at, handed, Looping, Gets, Stops, MayGet, MayStop, Allows}
+use Rattle.sql_cursor.specs.Outcomes.{First, first_is, Reading, reading, got, Fault, fault_memory, handed, Looping, Gets, Stops}
 use Rattle.sql_cursor.specs.Steps.{apart, absent, ahead, the}
 use Rattle.sql_cursor.specs.declared.refusal.Refusal.{Refusal}
 

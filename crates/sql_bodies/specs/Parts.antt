@@ -19,7 +19,7 @@ use Rattle.sql_meaning.specs.declared.script.Source.{Source}
 use Rattle.sql_meaning.specs.declared.script.JoinTo.{JoinTo}
 use Rattle.sql_meaning.specs.declared.script.SqlKey.{SqlKey}
 use Rattle.sql_cursor.specs.Table.{look, NoneOf, SomeOf}
-use Rattle.sql_cursor.specs.Outcomes.{First, first_is, Reading, reading, got, Fault, fault_memory, fault_at, handed, Looping, Gets, Stops, MayGet, MayStop, Allows}
+use Rattle.sql_cursor.specs.Outcomes.{first_is, reading, got, Fault, fault_memory, fault_at, handed, Gets, Stops, MayGet, MayStop}
 use Rattle.sql_cursor.specs.Steps.{absent, the, may_some, may_none, may_stops}
 use Rattle.sql_cursor.specs.declared.refusal.Refusal.{Refusal}
 use Rattle.sql_cursor.specs.declared.refusal.Refusal.TheVariants.{Syntax}

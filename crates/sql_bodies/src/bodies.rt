@@ -1,6 +1,6 @@
 //! Cores and bodies.
 
-ghost use Rattle.std.specs.Prelude.{◌≡◌, ◌≤◌, ◌<◌, IfOk, IfErr, length};
+ghost use Rattle.std.specs.Prelude.{◌≡◌, ◌<◌, IfOk, IfErr, length};
 ghost use Rattle.sql_meaning.specs.Grammar as grammar;
 ghost use Rattle.sql_meaning.specs.Grammar.{Plain, Unions, OneBody, a_core, a_body};
 ghost use Rattle.sql_cursor.specs.Outcomes.{Fault, Gets, Stops};

@@ -1,6 +1,6 @@
 //! What stands behind SELECT, and what ends it.
 
-ghost use Rattle.std.specs.Prelude.{◌≡◌, ◌≤◌, ◌<◌, IfOk, IfErr, length};
+ghost use Rattle.std.specs.Prelude.{◌≤◌, ◌<◌, IfOk, IfErr, length};
 ghost use Rattle.sql_meaning.specs.Grammar as grammar;
 ghost use Rattle.sql_meaning.specs.Grammar.{Parts, Ending, Sources, Condition, KeyList};
 ghost use Rattle.sql_cursor.specs.Outcomes.{Gets, Stops, MayStop};

@@ -16,7 +16,7 @@ use Rattle.sql_meaning.specs.declared.token.Placed.{Placed}
 use Rattle.sql_meaning.specs.declared.expression.SqlExpr.{SqlExpr}
 use Rattle.sql_meaning.specs.declared.script.SqlKey.{SqlKey}
 use Rattle.sql_cursor.specs.Table.{look, NoneOf, after}
-use Rattle.sql_cursor.specs.Outcomes.{First, first_is, Reading, reading, got, Fault, fault_memory, fault_at, handed, Looping, Gets, Stops, Allows}
+use Rattle.sql_cursor.specs.Outcomes.{First, first_is, reading, got, Fault, fault_memory, handed, Looping, Gets, Stops}
 use Rattle.sql_cursor.specs.Steps.{absent, the}
 use Rattle.sql_cursor.specs.declared.refusal.Refusal.{Refusal}
 use Rattle.sql_cursor.specs.declared.refusal.Refusal.TheVariants.{Syntax}

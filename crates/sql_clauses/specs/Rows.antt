@@ -18,7 +18,7 @@ use Rattle.sql_meaning.specs.declared.script.Item.{Item}
 use Rattle.sql_meaning.specs.declared.script.Source.{Source}
 use Rattle.sql_meaning.specs.declared.script.JoinTo.{JoinTo}
 use Rattle.sql_cursor.specs.Table.{look, NoneOf, SomeOf, after}
-use Rattle.sql_cursor.specs.Outcomes.{First, first_is, Reading, reading, got, Fault, fault_memory, fault_at, handed, Looping, Gets, Stops, Allows}
+use Rattle.sql_cursor.specs.Outcomes.{First, first_is, Reading, reading, got, Fault, fault_memory, handed, Looping, Gets, Stops}
 use Rattle.sql_cursor.specs.Steps.{absent, ahead, the, last, the_name, begins_mark, every_from, none_both}
 use Rattle.sql_cursor.specs.declared.refusal.Refusal.{Refusal}
 

@@ -1,6 +1,6 @@
 //! Items, sources and joins.
 
-ghost use Rattle.std.specs.Prelude.{◌≡◌, ◌≤◌, ◌<◌, ◌∷◌, [], IfOk, IfErr, IsTrue, IsFalse, length};
+ghost use Rattle.std.specs.Prelude.{◌≤◌, ◌<◌, ◌∷◌, [], IfOk, IfErr, IsTrue, IsFalse, length};
 ghost use Rattle.sql_meaning.specs.Grammar.{OneItem, ItemList, OneSource, OneJoin, Sources, an_item, item_list, a_source, a_join, sources};
 ghost use Rattle.sql_meaning.specs.Kinds.{a_mark};
 ghost use Rattle.sql_meaning.specs.declared.token.Mark.TheVariants as m;

@@ -17,7 +17,7 @@ use Rattle.sql_meaning.specs.declared.token.Placed.{Placed}
 use Rattle.sql_meaning.specs.declared.expression.SqlExpr.{SqlExpr}
 use Rattle.sql_meaning.specs.declared.expression.SqlExpr.TheVariants as v
 use Rattle.sql_cursor.specs.Table.{look, NoneOf, SomeOf, leaf_kinds, expr_kinds}
-use Rattle.sql_cursor.specs.Outcomes.{First, first_is, Reading, reading, got, DeepIn, Fault, fault_memory, fault_deep, fault_at, handed, Lead, Looping, Gets, Stops, Allows}
+use Rattle.sql_cursor.specs.Outcomes.{First, first_is, Reading, reading, got, Fault, fault_memory, fault_deep, fault_at, handed, Lead, Gets, Stops, Allows}
 use Rattle.sql_cursor.specs.Steps.{apart, absent, the, last, none_stops, none_both}
 use Rattle.sql_cursor.specs.declared.refusal.Refusal.{Refusal}
 use Rattle.sql_cursor.specs.declared.refusal.Refusal.TheVariants.{Deep, Syntax}

@@ -18,7 +18,7 @@ use Rattle.sql_meaning.specs.declared.token.Placed.{Placed}
 use Rattle.sql_meaning.specs.declared.expression.SqlExpr.{SqlExpr}
 use Rattle.sql_meaning.specs.declared.expression.SqlExpr.TheVariants as v
 use Rattle.sql_cursor.specs.Table.{look, NoneOf, leaf_kinds}
-use Rattle.sql_cursor.specs.Outcomes.{First, first_is, Reading, reading, got, Fault, fault_memory, fault_at, handed, Gets, Stops, Allows}
+use Rattle.sql_cursor.specs.Outcomes.{First, first_is, Reading, reading, Fault, fault_memory, fault_at, handed, Gets, Stops}
 use Rattle.sql_cursor.specs.Steps.{apart, absent, the, the_name, none_stops}
 use Rattle.sql_cursor.specs.Tests.{of_int, none_left}
 use Rattle.sql_cursor.specs.declared.refusal.Refusal.{Refusal}

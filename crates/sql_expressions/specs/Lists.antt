@@ -16,7 +16,7 @@ use Rattle.sql_meaning.specs.declared.expression.SqlExpr.{SqlExpr}
 use Rattle.sql_meaning.specs.declared.expression.SqlExpr.TheVariants as v
 use Rattle.sql_meaning.specs.declared.expression.Branch.{Branch}
 use Rattle.sql_cursor.specs.Table.{look, NoneOf, SomeOf, after}
-use Rattle.sql_cursor.specs.Outcomes.{First, first_is, Reading, reading, got, DeepIn, Fault, fault_memory, fault_deep, fault_at, handed, Lead, Looping, Gets, Stops, Allows}
+use Rattle.sql_cursor.specs.Outcomes.{First, first_is, reading, got, Fault, fault_memory, handed, Looping, Gets, Stops}
 use Rattle.sql_cursor.specs.Steps.{absent, ahead, the, last, begins_mark, every_from}
 use Rattle.sql_cursor.specs.declared.refusal.Refusal.{Refusal}
 

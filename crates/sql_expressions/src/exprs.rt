@@ -1,6 +1,6 @@
 //! Expressions with parts. An expression stands inside `level` others, and its parts inside one more.
 
-ghost use Rattle.std.specs.Prelude.{◌≡◌, ◌≤◌, ◌<◌, ◌∷◌, [], IfOk, IfErr, IsTrue, length};
+ghost use Rattle.std.specs.Prelude.{◌≡◌, ◌≤◌, ◌<◌, ◌∷◌, [], IfOk, IfErr, length};
 ghost use Rattle.sql_meaning.specs.Grammar.{Expr, Inner, Cases, Branches, OneBranch, Firsts, More, an_expr, a_branch, branch_list};
 ghost use Rattle.sql_cursor.specs.Outcomes.{Fault, Gets, Stops};
 ghost use Rattle.sql_expressions.specs.Exprs as exprs;

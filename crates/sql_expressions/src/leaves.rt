@@ -1,6 +1,6 @@
 //! Expressions without parts.
 
-ghost use Rattle.std.specs.Prelude.{◌≡◌, ◌<◌, ◌∷◌, [], None, Some, IfOk, IfErr, MatchOption, length};
+ghost use Rattle.std.specs.Prelude.{◌≡◌, ◌<◌, [], None, Some, IfOk, IfErr, MatchOption, length};
 ghost use Rattle.sql_meaning.specs.Grammar.{Simple, NullOf, an_expr};
 ghost use Rattle.sql_cursor.specs.Outcomes.{Fault, Gets, Stops};
 ghost use Rattle.sql_expressions.specs.Leaves as leaves;

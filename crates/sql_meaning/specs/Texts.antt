@@ -1,5 +1,5 @@
 -- Which texts spell a script, and where a text breaks.
-use Rattle.std.specs.Prelude.{List, [], ◌∷◌, ◌≡◌, ◌≤◌, ℕ, length}
+use Rattle.std.specs.Prelude.{List, [], ◌∷◌, ◌≡◌, ℕ, length}
 use Rattle.grammar_meaning.specs.Grammar.{call, Made, Reads, Front}
 use Rattle.grammar_meaning.specs.Parts.{BreaksFirst}
 use Rattle.sql_meaning.specs.Tokens.{IsCut}

@@ -1,5 +1,5 @@
 -- What was found under a name: its kind and its place, or none.
-use Rattle.std.specs.Prelude.{◌≡◌, Option, Some, None, MatchOption}
+use Rattle.std.specs.Prelude.{◌≡◌, Option, Some, None}
 use Rattle.table_meaning.specs.declared.kind.Kind.{Kind}
 use Rattle.bound_scripts.specs.declared.expression.BoundExpr.{BoundExpr}
 use Rattle.bound_scripts.specs.declared.expression.BoundExpr.TheVariants as v

@@ -1,12 +1,9 @@
 -- What the canonical spelling of a writable script may be read as.
-use Rattle.std.specs.Prelude.{List, [], ◌≡◌, ◌⊎◌, IsTrue, Result, Ok, Err, IfOk, IfErr}
+use Rattle.std.specs.Prelude.{◌≡◌, ◌⊎◌, IsTrue, Result, Ok, Err, IfOk, IfErr}
 use Rattle.std.proofs.Common.{ap, refl, subst, sym, inl, inr}
-use Rattle.grammar_meaning.specs.Grammar.{call, Made, Reads}
 use Rattle.sql_meaning.specs.Canon.{canon}
-use Rattle.sql_meaning.specs.Grammar.{WholeScript, a_script, full, shallow}
 use Rattle.sql_meaning.specs.Scripts.{is_writable}
 use Rattle.sql_meaning.specs.Texts.{SpellsOnly, IsDeep, HasDeepToken}
-use Rattle.sql_meaning.specs.declared.token.Placed.{Placed}
 use Rattle.sql_meaning.specs.declared.script.Script.{Script}
 use Rattle.sql_cut_laws.specs.OneCut.{texts_have_one_cut}
 use Rattle.sql_cut_laws.specs.Outcomes.{spelled_texts_dont_break}

@@ -13,7 +13,7 @@ use Rattle.sql_meaning.specs.declared.token.Placed.{Placed}
 use Rattle.sql_meaning.specs.declared.script.Step.{Step}
 use Rattle.sql_meaning.specs.declared.script.Body.{Body}
 use Rattle.sql_cursor.specs.Table.{look, NoneOf, SomeOf, after}
-use Rattle.sql_cursor.specs.Outcomes.{First, first_is, Reading, reading, got, Fault, fault_memory, handed, Looping, Gets, Stops, MayGet, MayStop}
+use Rattle.sql_cursor.specs.Outcomes.{First, first_is, reading, got, Fault, fault_memory, handed, Looping, Gets, Stops, MayGet, MayStop}
 use Rattle.sql_cursor.specs.Steps.{absent, the, last, the_name, begins_mark, may_some, may_none, may_stops}
 use Rattle.sql_cursor.specs.declared.refusal.Refusal.{Refusal}
 

@@ -9,7 +9,7 @@ use Rattle.grammar_meaning.specs.Grammar.{one, call, ◌⨾◌, ◌∣◌, many,
 use Rattle.sql_meaning.specs.Kinds.{a_mark, a_name, a_count, an_int, a_text, kind, is, is_count, among}
 use Rattle.sql_meaning.specs.Grammar.{Expr, Simple, NullOf, Inner, More, Cases, Branches, OneBranch, Firsts}
 use Rattle.sql_meaning.specs.Grammar.{mark, name, separator_mark, forms, rule, limited, an_expr, expr_list, a_branch, branch_list, Parsed, build, parts_in, branches_in, compared, constant, token_kind}
-use Rattle.sql_meaning.specs.Canon.{Tokens, the, name_tokens, between, each_behind, all_tokens, in_brackets, kind_mark, expr_tokens}
+use Rattle.sql_meaning.specs.Canon.{Tokens, the, name_tokens, each_behind, all_tokens, in_brackets, kind_mark, expr_tokens}
 use Rattle.sql_meaning.specs.Canon as canon
 use Rattle.sql_meaning.specs.Scripts.{all_of, expr_form, form_step, branch_form, expr_depth, depth_step, branch_depth, largest}
 use Rattle.sql_meaning.specs.Levels.{fold_name, fold_int, fold_text, fold_truth, fold_null, fold_equal, fold_less, fold_all, fold_any, fold_not, fold_is_null, fold_case, fold_first, fold_branch}

@@ -1,6 +1,6 @@
 //! WITH and its steps, and the whole script.
 
-ghost use Rattle.std.specs.Prelude.{◌≡◌, ◌≤◌, ◌<◌, [], IfOk, IfErr, length};
+ghost use Rattle.std.specs.Prelude.{◌≤◌, ◌<◌, [], IfOk, IfErr, length};
 ghost use Rattle.sql_meaning.specs.Grammar.{WholeScript, Steps, OneStep, a_script, step_list, a_step};
 ghost use Rattle.sql_cursor.specs.Outcomes.{Gets, Stops, MayStop};
 ghost use Rattle.sql_script_laws.specs.Steps.{StepsAt};

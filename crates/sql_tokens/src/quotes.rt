@@ -1,6 +1,6 @@
 //! Texts in quotes.
 
-ghost use Rattle.std.specs.Prelude.{◌≡◌, ◌≤◌, None, Some, IfOk, MatchOption, length};
+ghost use Rattle.std.specs.Prelude.{None, Some, IfOk, MatchOption};
 ghost use Rattle.sql_meaning.specs.Tokens as cut;
 ghost use Rattle.sql_tokens.specs.Quotes.{IsContent};
 

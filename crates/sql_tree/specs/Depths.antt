@@ -3,7 +3,7 @@ use Rattle.std.proofs.Common.{◌≡◌, ◌∙◌, ap, List, [], ◌∷◌, ℕ
 use Rattle.std.specs.Prelude.{map}
 use Rattle.table_meaning.specs.declared.kind.Kind.{Kind}
 use Rattle.sql_meaning.specs.Levels.{fold_name, fold_int, fold_text, fold_truth, fold_null, fold_equal, fold_less, fold_all, fold_any, fold_not, fold_is_null, fold_case, fold_first, fold_branch}
-use Rattle.sql_meaning.specs.Scripts.{largest, depth_step, expr_depth, up_to}
+use Rattle.sql_meaning.specs.Scripts.{largest, depth_step, expr_depth}
 use Rattle.sql_meaning.specs.Scripts as scripts
 use Rattle.sql_meaning.specs.declared.expression.SqlExpr.{SqlExpr}
 use Rattle.sql_meaning.specs.declared.expression.SqlExpr.TheVariants as v

@@ -1,6 +1,6 @@
 //! How often a script reads a primary table.
 
-ghost use Rattle.std.specs.Prelude.{◌≡◌, ◌+◌, map};
+ghost use Rattle.std.specs.Prelude.{◌≡◌, map};
 ghost use Rattle.sql_meaning.specs.Scripts as scripts;
 
 use sql_meaning::{Body, Core, JoinTo, Script, Source, Step};

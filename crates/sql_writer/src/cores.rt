@@ -3,7 +3,7 @@
 
 ghost use Rattle.std.specs.Prelude.{◌≡◌, ◌++◌, OnOk, map, codes};
 ghost use Rattle.rel_cells.specs.Fronts.{KeepsFront};
-ghost use Rattle.sql_spelling.specs.Pieces.{joined, behind, item_piece, join_piece, join_word, from_piece, where_piece, down_piece, key_piece, order_piece, distinct_piece, items_piece, rest_piece, core_piece, body_piece};
+ghost use Rattle.sql_spelling.specs.Pieces.{joined, behind, item_piece, join_piece, join_word, from_piece, where_piece, down_piece, key_piece, order_piece, distinct_piece, rest_piece, core_piece, body_piece};
 
 use crate::exprs::{write_between, write_expr};
 use crate::leaves::{write_count, write_source};

@@ -1,7 +1,7 @@
 //! Scripts.
 #![tactic(auto, using(rel_cells::specs::Fronts::kept_same, rel_cells::specs::Fronts::kept_append, rel_cells::specs::Fronts::kept_on, crate::specs::Lists::left_at_first))]
 
-ghost use Rattle.std.specs.Prelude.{◌≡◌, ◌++◌, OnOk, OnErr, IsTrue, map, codes, drop, length};
+ghost use Rattle.std.specs.Prelude.{◌≡◌, ◌++◌, OnOk, OnErr, IsTrue, map, drop, length};
 ghost use Rattle.rel_cells.specs.Fronts.{KeepsFront};
 ghost use Rattle.sql_meaning.specs.Canon.{canon};
 ghost use Rattle.sql_meaning.specs.Scripts.{is_writable};

@@ -1,19 +1,18 @@
 -- A store after a triple was put in, taken out or refused.
-use Rattle.std.proofs.Common.{◌≡◌, ◌⊎◌, inl, inr, ℕ, Bool, true, false, if◌then◌else◌, List, [], ◌∷◌, map, refl, sym, ap, ◌∙◌, subst}
+use Rattle.std.proofs.Common.{◌≡◌, inl, inr, ℕ, Bool, true, false, if◌then◌else◌, List, ◌∷◌, map, refl, sym, ap, ◌∙◌, subst}
 use Rattle.std.specs.List.{list_any}
 use Rattle.bags.specs.Bag.{SameBag}
-use Rattle.bags.specs.BagLaws.{same-map, same-refl, same-sym}
+use Rattle.bags.specs.BagLaws.{same-map, same-refl}
 use Rattle.rdf_meaning.specs.Terms.{RdfTerm, RdfTriple, same_triple}
-use Rattle.layout_meaning.specs.Side.{Item, SideState, items, is_held}
-use Rattle.layout_meaning.specs.Rows.{SideOf, placed_in, taken_from}
+use Rattle.layout_meaning.specs.Side.{Item, items, is_held}
+use Rattle.layout_meaning.specs.Rows.{placed_in, taken_from}
 use Rattle.standing_meaning.specs.Dictionary.{IsTriple}
-use Rattle.standing_meaning.specs.Sides.{SidesOf, both_placed, both_taken, AreAsBefore}
-use Rattle.standing_meaning.specs.Stored.{StoreOf, IsStore, IsItem, sides_of, triple_by, stored_triples}
+use Rattle.standing_meaning.specs.Sides.{SidesOf, both_placed}
+use Rattle.standing_meaning.specs.Stored.{StoreOf, IsStore, sides_of, triple_by, stored_triples}
 use Rattle.standing_meaning.specs.Changes.{with_term, with_terms, item_in, store_of, is_stored, stored_in, taken_out, AreSomeNoted, IsRefused}
-use Rattle.standing_meaning.proofs.Terms.{term_at-id}
 use Rattle.standing_meaning.proofs.Steps.{both-held, both-free}
 use Rattle.standing_meaning.proofs.Growth.{grown, grown-triple, placed-bag, taken-bag, store-placed, store-taken, store-before}
-use Rattle.standing_meaning.proofs.Present.{HasTerms, stored-one, terms-noted, term-there, triple-there, item-there, stored-held, held-terms}
+use Rattle.standing_meaning.proofs.Present.{stored-one, terms-noted, term-there, triple-there, item-there, stored-held, held-terms}
 
 -- a dictionary that grows changes no stored triple
 pub stored-grown_one : (s : StoreOf) (t : RdfTerm) → IsStore s → stored_triples (store_of (with_term s.terms t) (sides_of s)) ≡ stored_triples s

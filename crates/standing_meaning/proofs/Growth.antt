@@ -1,28 +1,28 @@
 -- A store whose dictionary grows, and in which items come and go.
-use Rattle.std.proofs.Common.{◌≡◌, ◌⊎◌, inl, inr, ℕ, zero, suc, ◌+◌, ◌-◌, ◌≤◌, ◌<◌, ◌==◌, ◌&&◌, ◌||◌, Bool, true, false, if◌then◌else◌, List, [], ◌∷◌, ◌++◌, map, Option, Some, None, length, slice_get, refl, sym, ap, ◌∙◌, arith, subst}
+use Rattle.std.proofs.Common.{◌≡◌, ℕ, zero, suc, ◌+◌, ◌-◌, ◌<◌, Bool, true, false, if◌then◌else◌, List, [], ◌∷◌, ◌++◌, Option, Some, None, length, slice_get, refl, sym, ap, ◌∙◌, arith, subst}
 use Rattle.std.specs.Prelude.{unwrap_or}
 use Rattle.std.specs.List.{list_any, IsDistinct, AllByRecursion}
 use Rattle.std.specs.Ordering.{nat_cmp}
 use Rattle.std.specs.BTreeMap.{is_at}
 use Rattle.std.specs.Map.{lookup}
 use Rattle.std.proofs.lemmas.Map.Keys.{IsDistinct-push}
-use Rattle.bags.specs.Bag.{total, SameBag}
-use Rattle.bags.specs.BagLaws.{each-weaker, each-append, total-map}
-use Rattle.rdf_meaning.specs.Terms.{RdfTerm, RdfTriple, iri, same_term, can_be_subject, can_be_predicate}
-use Rattle.rdf_meaning.specs.TermLaws.{same_term_equiv, same_term-is, same_term-self}
-use Rattle.layout_meaning.specs.Columns.{ColumnsOf, candidates_of}
+use Rattle.bags.specs.Bag.{SameBag}
+use Rattle.bags.specs.BagLaws.{each-weaker, each-append}
+use Rattle.rdf_meaning.specs.Terms.{RdfTerm, RdfTriple, iri, same_term}
+use Rattle.rdf_meaning.specs.TermLaws.{same_term_equiv}
+use Rattle.layout_meaning.specs.Columns.{candidates_of}
 use Rattle.layout_meaning.specs.Side.{Pair, Row, Rows, Item, SideState, items, is_held}
-use Rattle.layout_meaning.specs.Sound.{one_if, pair_at, RowKeeps, KeepsTo}
+use Rattle.layout_meaning.specs.Sound.{pair_at, RowKeeps}
 use Rattle.layout_meaning.specs.Rows.{SideOf, KeepsToNames, name_in, columns_by, placed_in, taken_from}
 use Rattle.layout_meaning.proofs.Names.{keeps-placed_in, keeps-taken_from}
 use Rattle.layout_meaning.proofs.Held.{held_after_placing, held_after_taking}
 use Rattle.layout_meaning.proofs.Changes.{placed-held}
-use Rattle.standing_meaning.specs.Dictionary.{Entry, IsTerm, IsTriple, names_of, numbered_from, entries_of}
+use Rattle.standing_meaning.specs.Dictionary.{IsTerm, IsTriple, names_of, numbered_from, entries_of}
 use Rattle.standing_meaning.specs.Sides.{SidesOf, turned, both_placed, both_taken, AreSides, AreAsBefore}
 use Rattle.standing_meaning.specs.Stored.{StoreOf, IsStore, IsItem, IsIdIn, sides_of, term_at, triple_by}
 use Rattle.standing_meaning.specs.Changes.{with_term, with_terms, store_of}
 use Rattle.standing_meaning.proofs.Terms.{term_at-name}
-use Rattle.standing_meaning.proofs.Steps.{sides_after_placing, sides_after_taking, both-held, both-free, each-bag_item, with_next, sides-next, good-next}
+use Rattle.standing_meaning.proofs.Steps.{sides_after_placing, sides_after_taking, both-free, each-bag_item, with_next, sides-next}
 
 -- terms behind others change no id
 get-front : (i : ℕ) (ts us : List RdfTerm) → i < length ts → slice_get (ts ++ us) i ≡ slice_get ts i

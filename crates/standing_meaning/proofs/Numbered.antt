@@ -6,8 +6,8 @@ use Rattle.std.specs.Ordering.{nat_cmp}
 use Rattle.std.specs.Map.{keys_of}
 use Rattle.bags.specs.Bag.{total}
 use Rattle.bags.specs.BagLaws.{total-flat_map, total-same, total-zero, each-flat_map, each-weaker}
-use Rattle.layout_meaning.specs.Side.{Pair, Row, Rows, Entities, Item, ValueLists, SideState, pair_items, items}
-use Rattle.layout_meaning.specs.Sound.{one_if, has_pred, names, over, AreSoundRows}
+use Rattle.layout_meaning.specs.Side.{Row, Rows, Entities, Item, ValueLists, SideState, pair_items, items}
+use Rattle.layout_meaning.specs.Sound.{one_if, over}
 use Rattle.layout_meaning.specs.Rows.{NumberedRow, rows_from, numbered_rows}
 use Rattle.standing_meaning.specs.Contents.{said, side_contents}
 use Rattle.standing_meaning.specs.Sides.{AreOnce}

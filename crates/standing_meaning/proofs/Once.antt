@@ -1,11 +1,11 @@
 -- Each item of a side stands in one place.
-use Rattle.std.proofs.Common.{◌≡◌, ℕ, zero, suc, ◌+◌, ◌≤◌, ◌<◌, ◌==◌, ◌&&◌, Bool, true, false, if◌then◌else◌, List, [], ◌∷◌, ◌++◌, map, Option, Some, None, refl, sym, ap, ◌∙◌, arith, subst}
+use Rattle.std.proofs.Common.{◌≡◌, ℕ, ◌+◌, ◌≤◌, ◌==◌, ◌&&◌, Bool, true, false, if◌then◌else◌, List, [], ◌∷◌, map, Option, Some, None, refl, arith}
 use Rattle.std.specs.List.{flat_map, AllByRecursion}
 use Rattle.std.specs.Ordering.{nat_cmp}
 use Rattle.std.specs.BTreeMap.{is_at}
 use Rattle.std.specs.Map.{lookup}
 use Rattle.bags.specs.Bag.{total}
-use Rattle.bags.specs.BagLaws.{total-flat_map, total-map, each-any, total-append}
+use Rattle.bags.specs.BagLaws.{total-flat_map, total-map, total-append}
 use Rattle.layout_meaning.specs.declared.value.Value.{Value}
 use Rattle.layout_meaning.specs.declared.value.Value.TheVariants.{One, Many}
 use Rattle.layout_meaning.specs.Side.{Pair, Row, Item, ValueLists, or_empty, elements_of, values_of, pair_items}
@@ -13,7 +13,6 @@ use Rattle.layout_meaning.specs.Sound.{one_if, has_pred, times, IsSoundList}
 use Rattle.layout_meaning.specs.Rows.{NumberedRow}
 use Rattle.layout_meaning.proofs.RowsKept.{All-found}
 use Rattle.standing_meaning.specs.Contents.{SideContents, said}
-use Rattle.standing_meaning.proofs.Each.{total-below}
 
 abbrev pub same_item : Item → Item → Bool
 same_item y x = y.entity == x.entity && (y.pred == x.pred && y.value == x.value)

@@ -1,25 +1,22 @@
 -- A triple is stored where its item is held, and what is stored after a change.
-use Rattle.std.proofs.Common.{◌≡◌, ◌⊎◌, inl, inr, ℕ, zero, suc, ◌+◌, ◌-◌, ◌≤◌, ◌<◌, ◌==◌, ◌&&◌, ◌||◌, Bool, true, false, if◌then◌else◌, List, [], ◌∷◌, ◌++◌, map, Option, Some, None, length, slice_get, refl, sym, ap, ◌∙◌, arith, subst}
+use Rattle.std.proofs.Common.{◌≡◌, ℕ, suc, ◌+◌, ◌-◌, ◌≤◌, ◌<◌, ◌||◌, Bool, true, false, if◌then◌else◌, List, [], ◌∷◌, ◌++◌, map, Option, Some, length, slice_get, refl, sym, ap, ◌∙◌, arith, subst}
 use Rattle.std.specs.Prelude.{unwrap_or}
 use Rattle.std.specs.List.{list_any, IsDistinct, AllByRecursion}
 use Rattle.std.proofs.lemmas.Option.{slice_get_within}
-use Rattle.bags.specs.Bag.{total, SameBag}
-use Rattle.bags.specs.BagLaws.{same-map, same-refl, same-sym, total-map, each-weaker}
+use Rattle.bags.specs.Bag.{total}
 use Rattle.rdf_meaning.specs.Terms.{RdfTerm, RdfTriple, iri, same_term, same_triple}
 use Rattle.rdf_meaning.specs.TermLaws.{same_term-is, same_term-self, same_triple-is, same_triple-self}
-use Rattle.layout_meaning.specs.Side.{Item, SideState, items, is_held}
+use Rattle.layout_meaning.specs.Side.{Item, items, is_held}
 use Rattle.layout_meaning.specs.Sound.{one_if}
-use Rattle.layout_meaning.specs.Rows.{placed_in, taken_from}
-use Rattle.standing_meaning.specs.Dictionary.{Entry, IsTriple, id_of, has_term, numbered_from, entries_of}
+use Rattle.standing_meaning.specs.Dictionary.{IsTriple, id_of, has_term, numbered_from, entries_of}
 use Rattle.standing_meaning.specs.Contents.{direct_item}
-use Rattle.standing_meaning.specs.Sides.{SidesOf, both_placed, both_taken, AreSides}
-use Rattle.standing_meaning.specs.Stored.{StoreOf, IsStore, IsItem, IsIdIn, sides_of, term_at, triple_by, stored_triples}
-use Rattle.standing_meaning.specs.Changes.{with_term, with_terms, item_in, store_of, is_stored, stored_in, taken_out}
+use Rattle.standing_meaning.specs.Stored.{StoreOf, IsStore, IsItem, IsIdIn, term_at, triple_by}
+use Rattle.standing_meaning.specs.Changes.{with_term, with_terms, item_in, is_stored}
 use Rattle.standing_meaning.proofs.Each.{picked}
 use Rattle.standing_meaning.proofs.Once.{same_item}
-use Rattle.standing_meaning.proofs.Terms.{term_at-id, id-numbered}
-use Rattle.standing_meaning.proofs.Steps.{itself, same-is, count-held, both-held, both-free}
-use Rattle.standing_meaning.proofs.Growth.{triple-front, grown-triple, placed-bag, taken-bag, store-placed, store-taken}
+use Rattle.standing_meaning.proofs.Terms.{term_at-id}
+use Rattle.standing_meaning.proofs.Steps.{itself, same-is, count-held}
+use Rattle.standing_meaning.proofs.Growth.{triple-front}
 
 -- the id of a term that is there
 id-place : (n : ℕ) (t : RdfTerm) (ts : List RdfTerm) → has_term (numbered_from n ts) t ≡ true → (n ≤ id_of (numbered_from n ts) t) × (slice_get ts (id_of (numbered_from n ts) t - n) ≡ Some t)

@@ -1,25 +1,21 @@
 -- The tables of a store stand for its triples.
-use Rattle.std.proofs.Common.{◌≡◌, ℕ, ◌+◌, ◌≤◌, ◌<◌, ◌==◌, ◌&&◌, Bool, true, false, if◌then◌else◌, List, [], ◌∷◌, ◌++◌, map, Option, Some, None, length, refl, sym, ap, ◌∙◌, arith, subst}
-use Rattle.std.specs.List.{flat_map, AllByRecursion, IsDistinct}
-use Rattle.std.specs.List.Sorted.{IsStrictlySortedBy}
-use Rattle.std.specs.Ordering.{nat_cmp}
-use Rattle.std.specs.Map.{keys_of}
+use Rattle.std.proofs.Common.{◌≡◌, ℕ, ◌≤◌, ◌==◌, Bool, true, false, List, [], ◌∷◌, map, length, refl, sym, ap, ◌∙◌, arith, subst}
+use Rattle.std.specs.List.{AllByRecursion, IsDistinct}
 use Rattle.bags.specs.Bag.{total, SameBag}
-use Rattle.bags.specs.BagLaws.{same-refl, same-trans, same-sym, same-map, total-map, total-each, each-weaker, each-map}
+use Rattle.bags.specs.BagLaws.{same-refl, total-map, each-weaker, each-map}
 use Rattle.rdf_meaning.specs.Terms.{RdfTerm, RdfTriple, same_term, same_triple}
 use Rattle.rdf_meaning.specs.TermLaws.{same_triple-is}
-use Rattle.layout_meaning.specs.Columns.{ColumnsOf}
-use Rattle.layout_meaning.specs.Side.{Row, Rows, Item, SideState, all_free, items}
-use Rattle.layout_meaning.specs.Sound.{one_if, has_pred, names, AreSoundRows, RowKeeps, IsSound}
+use Rattle.layout_meaning.specs.Side.{Row, Rows, Item, all_free, items}
+use Rattle.layout_meaning.specs.Sound.{one_if, has_pred, names, AreSoundRows, RowKeeps}
 use Rattle.layout_meaning.specs.Rows.{NumberedRow, SideOf, KeepsToNames, numbered_rows}
-use Rattle.standing_meaning.specs.Dictionary.{Entry, IsTriple, HasIds, is_id, id_of, has_term, names_of, entries_of}
+use Rattle.standing_meaning.specs.Dictionary.{Entry, IsTriple, HasIds, is_id, id_of, names_of, entries_of}
 use Rattle.standing_meaning.specs.Contents.{said, side_contents, contents_of, rows_said, direct_item, reverse_item}
-use Rattle.standing_meaning.specs.Standing.{SideStands, AreTables, AreTriples, Says, StandsFor, candidates_at}
+use Rattle.standing_meaning.specs.Standing.{SideStands, AreTriples, StandsFor, candidates_at}
 use Rattle.standing_meaning.specs.Sides.{IsGoodSide, turned}
-use Rattle.standing_meaning.specs.Stored.{StoreOf, IsStore, IsItem, layout_of, tables_of, triple_by, stored_triples, term_at, IsIdIn}
+use Rattle.standing_meaning.specs.Stored.{StoreOf, IsStore, IsItem, layout_of, tables_of, triple_by, stored_triples, term_at}
 use Rattle.standing_meaning.proofs.Each.{each-bag, total-below}
 use Rattle.standing_meaning.proofs.Numbered.{numbered-total, each-numbered, rows-once, no-gap, entity-once, said-is}
-use Rattle.standing_meaning.proofs.Known.{is_known, AreNamed, AreKnown, known_side}
+use Rattle.standing_meaning.proofs.Known.{is_known, AreKnown, known_side}
 use Rattle.standing_meaning.proofs.Once.{same_item, said-once}
 use Rattle.standing_meaning.proofs.Terms.{entries, term_at-id, term_at-has, id-is_id}
 

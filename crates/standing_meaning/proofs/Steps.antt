@@ -1,6 +1,6 @@
 -- What holds of both sides after a change.
-use Rattle.std.proofs.Common.{◌≡◌, ℕ, zero, suc, ◌+◌, ◌≤◌, ◌<◌, ◌==◌, ◌&&◌, Bool, true, false, if◌then◌else◌, List, [], ◌∷◌, ◌++◌, map, Option, Some, None, length, refl, sym, ap, ◌∙◌, arith, subst}
-use Rattle.std.specs.List.{list_any, AllByRecursion}
+use Rattle.std.proofs.Common.{◌≡◌, ℕ, ◌+◌, ◌≤◌, ◌<◌, ◌==◌, ◌&&◌, Bool, true, false, if◌then◌else◌, List, [], ◌∷◌, map, Option, Some, None, length, refl, sym, ap, ◌∙◌, arith, subst}
+use Rattle.std.specs.List.{AllByRecursion}
 use Rattle.std.specs.Ordering.{nat_cmp}
 use Rattle.std.specs.BTreeMap.{is_at, insert_entry}
 use Rattle.std.specs.Map.{lookup, set_value, remove_entry}
@@ -9,10 +9,10 @@ use Rattle.bags.specs.BagLaws.{total-map, each-weaker}
 use Rattle.layout_meaning.specs.declared.value.Value.{Value}
 use Rattle.layout_meaning.specs.declared.value.Value.TheVariants.{One, Many}
 use Rattle.layout_meaning.specs.Columns.{candidates_of}
-use Rattle.layout_meaning.specs.Side.{Row, Rows, Entities, Item, SideState, rows_of, elements_of, find, put_by, with_rows, is_held, place_by, placed, left_over, take_by, taken, items, first_of}
-use Rattle.layout_meaning.specs.Sound.{one_if, has_pred, numbered, AreSoundRows, IsSound}
+use Rattle.layout_meaning.specs.Side.{Rows, Entities, Item, SideState, rows_of, elements_of, find, put_by, with_rows, is_held, place_by, placed, left_over, take_by, taken, items, first_of}
+use Rattle.layout_meaning.specs.Sound.{one_if, has_pred, AreSoundRows, IsSound}
 use Rattle.layout_meaning.specs.Rows.{SideOf, placed_in, taken_from}
-use Rattle.layout_meaning.proofs.Maps.{set_value-total, insert_entry-total, remove_entry-total, at_true}
+use Rattle.layout_meaning.proofs.Maps.{set_value-total, insert_entry-total, remove_entry-total}
 use Rattle.layout_meaning.proofs.Held.{held_after_placing, held_after_taking}
 use Rattle.layout_meaning.proofs.Kept.{sound_after_placing, sound_after_taking}
 use Rattle.layout_meaning.proofs.Changes.{next-placed, placed-held, taken-free}

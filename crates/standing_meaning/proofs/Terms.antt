@@ -1,16 +1,15 @@
 -- Terms numbered on, and their ids.
-use Rattle.std.proofs.Common.{◌≡◌, ℕ, zero, suc, ◌+◌, ◌-◌, ◌≤◌, ◌<◌, ◌==◌, ◌||◌, Bool, true, false, if◌then◌else◌, cond, List, [], ◌∷◌, ◌++◌, map, Option, Some, None, length, slice_get, refl, sym, ap, ◌∙◌, arith, subst}
+use Rattle.std.proofs.Common.{◌≡◌, ℕ, zero, suc, ◌+◌, ◌-◌, ◌≤◌, ◌<◌, ◌==◌, ◌||◌, Bool, true, false, if◌then◌else◌, List, [], ◌∷◌, Some, length, slice_get, refl, sym, ap, ◌∙◌, arith, subst}
 use Rattle.std.specs.Prelude.{unwrap_or}
-use Rattle.std.specs.List.{list_any, IsDistinct, AllByRecursion}
+use Rattle.std.specs.List.{IsDistinct, AllByRecursion}
 use Rattle.std.specs.Ordering.{nat_cmp}
 use Rattle.std.specs.BTreeMap.{is_at}
-use Rattle.std.specs.Map.{lookup}
 use Rattle.bags.specs.Bag.{total}
 use Rattle.rdf_meaning.specs.Terms.{RdfTerm, iri, same_term}
 use Rattle.rdf_meaning.specs.TermLaws.{same_term-is, same_term-self}
 use Rattle.layout_meaning.specs.Sound.{one_if}
 use Rattle.layout_meaning.specs.Rows.{name_in}
-use Rattle.layout_meaning.proofs.Maps.{at_true, at_itself}
+use Rattle.layout_meaning.proofs.Maps.{at_true}
 use Rattle.standing_meaning.specs.Dictionary.{Entry, IsTerm, AreEntries, id_of, has_term, is_id, names_of, numbered_from, entries_of}
 use Rattle.standing_meaning.specs.Stored.{term_at, IsIdIn}
 

@@ -1,14 +1,13 @@
 -- Tables that stand for triples.
-use Rattle.std.specs.Prelude.{◌≡◌, ℕ, suc, ◌+◌, ◌≤◌, ◌==◌, ◌&&◌, ◌||◌, not, nat_eq, Bool, true, false, if◌then◌else◌, List, [], ◌∷◌, map, Option, Some, None, length}
+use Rattle.std.specs.Prelude.{◌≡◌, ℕ, suc, ◌≤◌, ◌==◌, ◌&&◌, not, Bool, true, false, if◌then◌else◌, List, map, Option, Some, None, length}
 use Rattle.std.specs.List.{list_any, AllByRecursion}
 use Rattle.bags.specs.Bag.{total, SameBag}
-use Rattle.table_meaning.specs.declared.cell.Cell.{Cell}
 use Rattle.table_meaning.specs.Tables.{NamedTable}
-use Rattle.rdf_meaning.specs.Terms.{RdfTerm, RdfTriple, same_triple}
+use Rattle.rdf_meaning.specs.Terms.{RdfTriple, same_triple}
 use Rattle.layout_meaning.specs.Columns.{ColumnsOf}
 use Rattle.layout_meaning.specs.declared.value.Value.{Value}
 use Rattle.layout_meaning.specs.declared.value.Value.TheVariants.{One, Many}
-use Rattle.layout_meaning.specs.Side.{Pair, Row, Item, ValueLists, all_free, is_pred}
+use Rattle.layout_meaning.specs.Side.{Pair, all_free, is_pred}
 use Rattle.layout_meaning.specs.Sound.{one_if, has_pred, names, numbered, IsSoundList, RowKeeps}
 use Rattle.layout_meaning.specs.Rows.{NumberedRow, name_in, columns_by}
 use Rattle.standing_meaning.specs.Dictionary.{Entry, AreEntries, HasIds, IsTriple, id_of, is_id, names_of}

@@ -1,5 +1,5 @@
 -- A dictionary and two sides, and the triples that they stand for.
-use Rattle.std.specs.Prelude.{◌≡◌, ℕ, ◌-◌, ◌≤◌, List, [], map, length, slice_get, unwrap_or}
+use Rattle.std.specs.Prelude.{ℕ, ◌-◌, ◌≤◌, List, [], map, length, slice_get, unwrap_or}
 use Rattle.std.specs.List.{IsDistinct, AllByRecursion}
 use Rattle.rdf_meaning.specs.Terms.{RdfTerm, RdfTriple, iri, same_term}
 use Rattle.table_meaning.specs.Tables.{NamedTable}

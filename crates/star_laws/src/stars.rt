@@ -1,6 +1,6 @@
 //! Laws of stars.
 
-ghost use Rattle.std.specs.Prelude.{◌≡◌, List, [], ◌∷◌, ◌++◌, map, true, false};
+ghost use Rattle.std.specs.Prelude.{◌≡◌, List, [], ◌++◌, map, true, false};
 ghost use Rattle.std.specs.List.{list_all, AllByRecursion, IsDistinct};
 ghost use Rattle.bags.specs.Bag.{SameBag};
 ghost use Rattle.rdf_meaning.specs.Terms.{RdfTriple, same_triple, is_empty};
@@ -11,7 +11,7 @@ ghost use Rattle.query_meaning.specs.Width.{slot_in_width};
 ghost use Rattle.query_meaning.specs.Variables.{Binds, IsOver};
 ghost use Rattle.plan_meaning.specs.declared.star.Arm.{Arm};
 ghost use Rattle.plan_meaning.specs.declared.star.Star.{Star};
-ghost use Rattle.plan_meaning.specs.declared.star.StarBody.TheVariants.{Both, Either};
+ghost use Rattle.plan_meaning.specs.declared.star.StarBody.TheVariants.{Either};
 ghost use Rattle.plan_meaning.specs.Stars.{arm_pattern, both_sols, body_sols, stars_leaf, left_joins, arm_in_width, star_in_width, stars_variables, stars_certain};
 ghost use Rattle.plan_meaning.specs.Merged.{is_required_only, all_patterns};
 

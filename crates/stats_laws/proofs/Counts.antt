@@ -1,5 +1,5 @@
 -- What is counted of the rows, lists and terms of a store.
-use Rattle.std.proofs.Common.{◌≡◌, ℕ, suc, ◌+◌, ◌==◌, ◌&&◌, ◌||◌, Bool, true, false, if◌then◌else◌, List, [], ◌∷◌, ◌++◌, length, refl, sym, ap, ◌∙◌, arith}
+use Rattle.std.proofs.Common.{◌≡◌, ℕ, suc, ◌+◌, ◌==◌, ◌&&◌, ◌||◌, Bool, false, List, [], ◌∷◌, length, refl, sym, ap, ◌∙◌, arith}
 use Rattle.std.specs.Prelude.{not}
 use Rattle.std.specs.List.{list_any}
 use Rattle.std.proofs.lemmas.List.Folds.{list_any-append}
@@ -8,7 +8,7 @@ use Rattle.bags.specs.BagLaws.{same-refl, total-one_each, total-same}
 use Rattle.rdf_meaning.specs.Terms.{RdfTerm}
 use Rattle.layout_meaning.specs.Side.{Rows, Entities, is_pred}
 use Rattle.layout_meaning.specs.Rows.{SideOf, NumberedRow, IsCountOf, is_spilled, later, rows_from, row_total, numbered_rows}
-use Rattle.standing_meaning.specs.Dictionary.{numbered_from, entries_of}
+use Rattle.standing_meaning.specs.Dictionary.{numbered_from}
 use Rattle.standing_meaning.specs.Contents.{side_contents, contents_of, rows_said}
 use Rattle.standing_meaning.specs.Standing.{is_spilled_in}
 use Rattle.standing_meaning.specs.Stored.{StoreOf, IsStore, layout_of, tables_of, stored_triples}

@@ -1,12 +1,12 @@
 -- What the contents of a store's tables say.
-use Rattle.std.proofs.Common.{◌≡◌, ℕ, ◌≤◌, true, List, [], ◌∷◌, map, refl, sym, ap, ◌∙◌, subst}
+use Rattle.std.proofs.Common.{◌≡◌, ◌≤◌, true, List, [], ◌∷◌, map, refl, sym, ap, ◌∙◌, subst}
 use Rattle.std.specs.List.{AllByRecursion, IsDistinct}
 use Rattle.bags.specs.Bag.{total, SameBag}
 use Rattle.bags.specs.BagLaws.{same-refl, each-weaker, each-map}
-use Rattle.rdf_meaning.specs.Terms.{RdfTerm, RdfTriple, same_term}
+use Rattle.rdf_meaning.specs.Terms.{RdfTerm, same_term}
 use Rattle.layout_meaning.specs.Side.{Item, items}
 use Rattle.layout_meaning.specs.Sound.{one_if}
-use Rattle.standing_meaning.specs.Dictionary.{HasIds, IsTriple, id_of, entries_of}
+use Rattle.standing_meaning.specs.Dictionary.{HasIds, id_of, entries_of}
 use Rattle.standing_meaning.specs.Contents.{said, side_contents, contents_of, direct_item, reverse_item}
 use Rattle.standing_meaning.specs.Standing.{SideStands, Says}
 use Rattle.standing_meaning.specs.Sides.{turned}

@@ -1,7 +1,7 @@
 //! Laws of table statistics: what is counted of a store is counted of its tables.
 #![tactic(auto)]
 
-ghost use Rattle.std.specs.Prelude.{◌≡◌, ℕ, List, length};
+ghost use Rattle.std.specs.Prelude.{◌≡◌, ℕ, length};
 ghost use Rattle.layout_meaning.specs.Side.{Entities};
 ghost use Rattle.layout_meaning.specs.Rows.{SideOf, IsCountOf, is_spilled, row_total, numbered_rows};
 ghost use Rattle.standing_meaning.specs.Contents.{side_contents};

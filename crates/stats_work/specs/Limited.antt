@@ -1,5 +1,5 @@
 -- What a change needs of a store, and what is held after it.
-use Rattle.std.specs.Prelude.{ℕ, ◌+◌, ◌<◌, ◌^◌, nat_lt, if◌then◌else◌, ◌∷◌, length, Option, Some, None}
+use Rattle.std.specs.Prelude.{◌+◌, ◌<◌, ◌^◌, nat_lt, if◌then◌else◌, ◌∷◌, length, Option, Some, None}
 use Rattle.bags.specs.Bag.{SameBag}
 use Rattle.line_meaning.specs.declared.change.Change.{Change}
 use Rattle.line_meaning.specs.declared.change.Change.TheVariants.{Add, Delete}

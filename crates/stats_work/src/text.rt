@@ -1,6 +1,6 @@
 //! The text of statistics.
 
-ghost use Rattle.std.specs.Prelude.{◌≡◌, ◌++◌, ◌∷◌, [], IfOk, OnOk, decimal};
+ghost use Rattle.std.specs.Prelude.{◌≡◌, ◌++◌, ◌∷◌, [], IfOk, OnOk};
 ghost use Rattle.stats_meaning.specs.Statistics.{counted, side_text, stats_text};
 
 use itoa::Buffer;

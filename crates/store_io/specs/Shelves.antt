@@ -1,5 +1,5 @@
 -- The shelf in memory, as contracts see it.
-use Rattle.std.specs.Prelude.{◌≡◌, ◌+◌, ◌-◌, ◌^◌, ◌||◌, ◌==◌, ℕ, Bool, List, Option, option_map, find, reverse, count_by, is_none, min}
+use Rattle.std.specs.Prelude.{◌+◌, ◌-◌, ◌^◌, ◌||◌, ◌==◌, ℕ, Bool, List, Option, option_map, find, reverse, count_by, is_none, min}
 use Rattle.std.specs.List.{list_any}
 use Rattle.std.specs.Str.{bytes_eq}
 

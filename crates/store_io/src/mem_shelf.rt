@@ -1,7 +1,6 @@
 //! A shelf in memory.
 
-ghost use Rattle.std.specs.Prelude.{◌≡◌, ◌++◌, [], ◌∷◌, ℕ, List, Some, ◌<◌, OnOk, OnErr, IfOk, IsErrOf, IsTrue, IsOk, option_map, option_copied, find, reverse, not};
-ghost use Rattle.std.specs.List.{list_any};
+ghost use Rattle.std.specs.Prelude.{◌≡◌, ◌++◌, [], ◌∷◌, ℕ, List, Some, ◌<◌, OnOk, OnErr, IfOk, IsErrOf, IsTrue, IsOk, option_copied, find, reverse, not};
 ghost use Rattle.std.specs.Str.{bytes_eq};
 ghost use Rattle.store_io.specs.Reading.{Reads, CountsFaults};
 ghost use Rattle.store_io.specs.Shelves.{content_of, faults_among, next_read, next_fails};

@@ -1,6 +1,6 @@
 //! A shelf over the files of the system.
 
-ghost use Rattle.std.specs.Prelude.{◌≡◌, ◌≤◌, ◌+◌, [], None, IfOk, IsErrOf, OnErr, take, length};
+ghost use Rattle.std.specs.Prelude.{◌≡◌, [], None, IfOk, OnErr, take, length};
 ghost use Rattle.store_io.specs.Reading.{Reads};
 ghost use Rattle.store_io.specs.Shelves.{faults_among};
 

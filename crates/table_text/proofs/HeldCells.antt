@@ -1,5 +1,5 @@
 -- Loops that see cells which a text can spell, and what all their turns say of the tables.
-use Rattle.std.proofs.Common.{◌≡◌, ℕ, zero, suc, ◌+◌, ◌≤◌, Bool, true, false, ◌&&◌, List, [], ◌∷◌, length, get_or, take, refl, sym, ap, subst, ◌∙◌, slice_get, arith}
+use Rattle.std.proofs.Common.{◌≡◌, ℕ, zero, suc, ◌+◌, Bool, true, List, [], ◌∷◌, length, get_or, take, refl, sym, ap, subst, ◌∙◌, slice_get}
 use Rattle.std.specs.Prelude.{unwrap_or}
 use Rattle.std.specs.Cmp.{first_so, second_so}
 use Rattle.std.specs.List.{list_all}
@@ -12,7 +12,7 @@ use Rattle.table_meaning.specs.declared.cell.Cell.TheVariants.{Null}
 use Rattle.table_meaning.specs.TableText.{is_plain_table, is_held_cell, is_held_table, is_spelled_set}
 use Rattle.table_meaning.specs.Schemas.{is_schema}
 use Rattle.table_meaning.specs.TableLaws.{is_row-length}
-use Rattle.table_meaning.specs.Tables.{NamedTable, no_table, table_at, row_at, is_row, are_rows, is_table, is_table_set}
+use Rattle.table_meaning.specs.Tables.{NamedTable, no_table, table_at, row_at, is_row, is_table, is_table_set}
 use Rattle.table_text.specs.Writing.{cells_held, rows_held, tables_held}
 
 -- one item more

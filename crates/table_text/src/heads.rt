@@ -1,8 +1,8 @@
 //! Heads of tables.
 
-ghost use Rattle.std.specs.Prelude.{◌≡◌, ◌∷◌, ℕ, length, IfOk, option_map, codes};
+ghost use Rattle.std.specs.Prelude.{◌≡◌, IfOk, option_map};
 ghost use Rattle.table_meaning.specs.declared.kind.Kind.{Kind};
-ghost use Rattle.table_text.specs.Reading.{name_of, column_as, column_of, columns_of, schema_of, head_of, fields_of, fields_left};
+ghost use Rattle.table_text.specs.Reading.{name_of, column_as, column_of, columns_of, schema_of, head_of, fields_left};
 
 use crate::fields::split_field;
 use crate::names::are_distinct;

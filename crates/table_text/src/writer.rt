@@ -1,7 +1,7 @@
 //! Tables, written as text.
 #![tactic(auto, using(rel_cells::specs::Fronts::kept_same, rel_cells::specs::Fronts::kept_append, rel_cells::specs::Fronts::kept_on))]
 
-ghost use Rattle.std.specs.Prelude.{◌≡◌, ◌++◌, ◌∷◌, ◌<◌, [], length, map, OnOk, OnErr, IsTrue};
+ghost use Rattle.std.specs.Prelude.{◌≡◌, ◌++◌, ◌<◌, length, map, OnOk, OnErr, IsTrue};
 ghost use Rattle.std.specs.List.{flat_map, list_all};
 ghost use Rattle.rel_cells.specs.Fronts.{KeepsFront};
 ghost use Rattle.table_meaning.specs.CellText.{ended, after_tab};

@@ -1,6 +1,6 @@
 //! A list of distinct terms, found by their hashes.
 
-ghost use Rattle.std.specs.Prelude.{◌≡◌, ◌≢◌, ◌≤◌, ◌<◌, ◌+◌, ◌-◌, ◌++◌, ◌∷◌, [], ℕ, length, slice_get, Contains, AllPairs, Err, Some, OnOk, OnErr, IfOk, MatchOption};
+ghost use Rattle.std.specs.Prelude.{◌≡◌, ◌≢◌, ◌≤◌, ◌<◌, ◌+◌, ◌-◌, ◌++◌, ◌∷◌, [], length, Contains, AllPairs, Err, Some, OnOk, OnErr, IfOk, MatchOption};
 ghost use Rattle.std.specs.List.{IsDistinct};
 ghost use Rattle.rdf_meaning.specs.Terms.{same_term};
 ghost use Rattle.term_book.specs.Book.{HasId, IsNoted, IsFull, IsPlaceOf};

@@ -1,6 +1,6 @@
 -- A filter over a step carries what passes it.
-use Rattle.std.proofs.Common.{◌≡◌, ℕ, ◌+◌, ◌⊎◌, Bool, true, false, cond, if◌then◌else◌, List, [], ◌∷◌, ◌++◌, map, Option, Some, None, sym, refl, ap, ap₂, ◌∙◌, subst, arith, pos}
-use Rattle.std.specs.List.{filter, AllByRecursion}
+use Rattle.std.proofs.Common.{◌≡◌, ℕ, Bool, cond, List, [], ◌∷◌, map, Some, None, sym, refl, ap, ap₂, ◌∙◌, pos}
+use Rattle.std.specs.List.{filter}
 use Rattle.query_meaning.specs.Expressions.{Truth as Truth3, is_true as holds}
 use Rattle.query_meaning.specs.Mapping.{Mapping}
 use Rattle.rdf_meaning.specs.Terms.{RdfTerm}

@@ -1,5 +1,5 @@
 -- The SELECT of a filter.
-use Rattle.std.specs.Prelude.{◌≡◌, ℕ, Bool, true, false, List, [], ◌∷◌, ◌++◌, map, Option, Some, None}
+use Rattle.std.specs.Prelude.{◌≡◌, ℕ, true, false, List, [], ◌∷◌, map, Some, None}
 use Rattle.query_meaning.specs.Expressions.{Truth as Truth3}
 use Rattle.query_meaning.specs.Mapping.{Mapping}
 use Rattle.table_meaning.specs.declared.cell.Cell.{Cell}

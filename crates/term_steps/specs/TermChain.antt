@@ -1,7 +1,7 @@
 -- A LEFT JOIN with the terms for each of several variables.
-use Rattle.std.proofs.Common.{◌≡◌, ℕ, zero, suc, ◌+◌, ◌/◌, ◌%◌, ◌⊎◌, Bool, true, false, cond, if◌then◌else◌, ◌&&◌, ◌||◌, List, [], ◌∷◌, ◌++◌, map, Option, Some, None, sym, refl, ap, ap₂, ◌∙◌, subst, arith, eqb, inl, inr, ◌==◌, pos, bytes_eq}
-use Rattle.std.proofs.lemmas.Bool.{eq-eqb, eqb-true, ne_eqb, cases_Bool, cases_eq, and_parts, or_cases, or_parts, false_from_ne_true}
-use Rattle.std.specs.List.{list_any, filter, flat_map, AllByRecursion}
+use Rattle.std.proofs.Common.{◌≡◌, ℕ, ◌+◌, ◌/◌, ◌%◌, ◌⊎◌, Bool, true, false, List, [], ◌∷◌, map, Option, Some, None, sym, refl, ap, ◌∙◌, arith, eqb, inl, inr, ◌==◌, bytes_eq}
+use Rattle.std.proofs.lemmas.Bool.{eq-eqb, eqb-true, ne_eqb, cases_Bool, cases_eq, and_parts, or_cases, false_from_ne_true}
+use Rattle.std.specs.List.{flat_map, AllByRecursion}
 use Rattle.query_meaning.specs.Mapping.{Mapping}
 use Rattle.query_meaning.specs.Eval.{join}
 use Rattle.rdf_meaning.specs.Terms.{RdfTerm}

@@ -1,6 +1,6 @@
 -- A LEFT JOIN with the table of terms gives each row once.
-use Rattle.std.specs.Prelude.{◌≡◌, ℕ, ◌+◌, Bool, true, false, cond, List, [], ◌∷◌, map, Option, Some, None, pos, refl}
-use Rattle.std.proofs.Common.{sym, ap, ap₂, ◌∙◌, eqb}
+use Rattle.std.specs.Prelude.{◌≡◌, ℕ, Bool, true, cond, List, [], map, Option, Some, None, refl}
+use Rattle.std.proofs.Common.{ap, ap₂, ◌∙◌, eqb}
 use Rattle.std.proofs.lemmas.Slice.Eq.{bytes_eq-Decides}
 use Rattle.std.specs.List.{filter}
 use Rattle.std.specs.Str.{bytes_eq}
@@ -19,7 +19,7 @@ use Rattle.sql_rows_meaning.specs.Tables.{Relations, cell_under}
 use Rattle.sql_rows_meaning.specs.Sources.{with_row, joined_to}
 use Rattle.step_laws.specs.Carried.{Name, Ids, id_cell}
 use Rattle.step_laws.specs.LeftStep.{total-or_nulls}
-use Rattle.term_steps.specs.TermTable.{id_name, term_columns, term_cells, HasTerms, term_join, term_row}
+use Rattle.term_steps.specs.TermTable.{id_name, term_columns, HasTerms, term_join, term_row}
 
 own_cell : (alias : Name) (columns : List Name) (row : List Cell) (sight : Sight) (c : Name) → with_row alias columns row sight alias c ≡ cell_under columns row c
 own_cell alias columns row sight c = let same : bytes_eq alias alias ≡ true = (bytes_eq-Decides alias alias).1 refl in rw same refl

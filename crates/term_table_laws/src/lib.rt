@@ -1,7 +1,7 @@
 //! Laws of the table of terms: what the tables say of terms and their ids is what the steps of a compiled query take of them.
 #![tactic(auto)]
 
-ghost use Rattle.std.specs.Prelude.{◌≡◌, List, codes};
+ghost use Rattle.std.specs.Prelude.{List, codes};
 ghost use Rattle.table_meaning.specs.Tables.{NamedTable};
 ghost use Rattle.sql_rows_meaning.specs.Tables.{relations_of};
 ghost use Rattle.standing_meaning.specs.Dictionary.{AreEntries, id_of, has_term};

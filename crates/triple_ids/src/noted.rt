@@ -1,6 +1,6 @@
 //! Terms that are noted and found.
 
-ghost use Rattle.std.specs.Prelude.{◌≡◌, ◌≤◌, ◌<◌, length, Contains, Err, IfOk, OnOk, OnErr, MatchOption};
+ghost use Rattle.std.specs.Prelude.{◌≡◌, ◌≤◌, ◌<◌, length, Err, IfOk, OnOk, OnErr, MatchOption};
 ghost use Rattle.standing_meaning.specs.Dictionary.{IsTerm, IsTriple};
 ghost use Rattle.standing_meaning.specs.Changes.{with_term, with_terms, AreSomeNoted};
 ghost use Rattle.term_book.specs.Book.{HasId};

@@ -1,5 +1,5 @@
 -- What an answer tells of an item.
-use Rattle.std.proofs.Common.{◌≡◌, ℕ, Bool, true, false, refl}
+use Rattle.std.proofs.Common.{◌≡◌, Bool, true, false, refl}
 use Rattle.layout_meaning.specs.Side.{Item}
 use Rattle.value_lists.specs.declared.lists.Put.{Put}
 use Rattle.value_lists.specs.declared.lists.Put.TheVariants.{Added, There}

@@ -1,9 +1,8 @@
 //! Both sides together.
 
-ghost use Rattle.std.specs.Prelude.{◌≡◌, ◌⊎◌, ◌≤◌, ◌+◌, ◌^◌, [], length, false, IfOk, OnOk, OnErr, Ok, Err};
+ghost use Rattle.std.specs.Prelude.{◌≡◌, ◌⊎◌, ◌≤◌, ◌+◌, ◌^◌, [], false, IfOk, OnOk, OnErr, Ok, Err};
 ghost use Rattle.bags.specs.Bag.{total};
 ghost use Rattle.layout_meaning.specs.Side.{is_held, items};
-ghost use Rattle.layout_meaning.specs.Rows.{IsCountOf, is_spilled, row_total};
 ghost use Rattle.standing_meaning.specs.Sides.{both_placed, both_taken, AreSides, AreAsBefore};
 ghost use Rattle.value_lists.specs.Answers.{put_of};
 ghost use Rattle.primary_rows.specs.Answers.{took_of};

@@ -1,10 +1,10 @@
 //! Lists under their ids.
 
-ghost use Rattle.std.specs.Prelude.{◌≡◌, ◌≢◌, ◌≤◌, ◌<◌, ◌+◌, ◌∷◌, ◌++◌, [], ℤ, pos, negsuc, ◌≤ℤ◌, ◌^◌, IsSome, length, nat_eq, true, false, IfOk, IfErr, OnOk, OnErr, Some, None, Err};
+ghost use Rattle.std.specs.Prelude.{◌≡◌, ◌≢◌, ◌≤◌, ◌<◌, ◌+◌, ◌∷◌, ◌++◌, [], ℤ, negsuc, ◌≤ℤ◌, ◌^◌, IsSome, length, nat_eq, true, false, IfOk, IfErr, OnOk, OnErr, Some, None, Err};
 ghost use Rattle.std.specs.List.{list_any};
 ghost use Rattle.std.specs.Ordering.{nat_cmp};
 ghost use Rattle.std.specs.BTreeMap.{get, is_at, insert_entry};
-ghost use Rattle.std.specs.Map.{lookup, set_value};
+ghost use Rattle.std.specs.Map.{set_value};
 ghost use Rattle.std.specs.Set.{remove_key};
 ghost use Rattle.layout_meaning.specs.Side.{elements_of, only, left_lists};
 ghost use Rattle.layout_meaning.specs.Lists.{AreLists, list_id, number_of, with_list, with_value, without_value};

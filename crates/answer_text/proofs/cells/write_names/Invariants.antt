@@ -1,9 +1,8 @@
-use Rattle.std.proofs.Common.{◌≡◌, ◌++◌, drop, map}
-use Rattle.std.specs.List.{flat_map}
+use Rattle.std.proofs.Common.{◌≡◌, ◌++◌, drop}
 use Rattle.rel_cells.specs.Fronts.{KeepsFront}
-use Rattle.table_meaning.specs.CellText.{cell_text, tabbed, row_line}
+use Rattle.table_meaning.specs.CellText.{tabbed}
 use Rattle.table_meaning.specs.Schemas.{column_names}
-use Rattle.answer_text.specs.Tabs.{left_of, row_text}
+use Rattle.answer_text.specs.Tabs.{left_of}
 use Rattle.answer_text.proofs.cells.write_names.Given as goal
 
 abbrev pub invariant-loop-column : goal.invariant-loop-column

@@ -1,4 +1,4 @@
-use Rattle.std.proofs.Common.{◌≡◌, ◌∷◌, List, ℕ}
+use Rattle.std.proofs.Common.{◌≡◌, ◌∷◌, ℕ}
 use Rattle.std.specs.Map.Iter.{deref_pair}
 use Rattle.std.proofs.lemmas.Map.Iter.{rest_more}
 use Rattle.layout_meaning.specs.Side.{Rows, Entities}

@@ -1,4 +1,4 @@
-use Rattle.std.proofs.Common.{◌≡◌, IsTrue, [], map, drop}
+use Rattle.std.proofs.Common.{IsTrue, [], map, drop}
 use Rattle.std.specs.List.{list_all}
 use Rattle.bulk_meaning.specs.Appended.{lists_in, given_pair, named_by}
 use Rattle.bulk_meaning.proofs.Going.{Going}

@@ -1,7 +1,7 @@
-use Rattle.std.proofs.Common.{◌≡◌, ◌<◌, ◌≤◌, ◌+◌, ◌∙◌, ◌∷◌, [], ap, arith, List, ℕ, drop, length}
+use Rattle.std.proofs.Common.{◌≡◌, ◌<◌, ◌≤◌, ◌+◌, ◌∙◌, ◌∷◌, [], ap, arith, ℕ, drop, length}
 use Rattle.std.specs.List.{flat_map}
 use Rattle.bags.specs.Bag.{total}
-use Rattle.layout_meaning.specs.Side.{Row, Rows}
+use Rattle.layout_meaning.specs.Side.{Rows}
 use Rattle.bulk_meaning.specs.Appended.{lists_in, given_row, named_by}
 use Rattle.bulk_meaning.proofs.Turns.{turn-length}
 use Rattle.bulk_meaning.proofs.Sides.{count-row}

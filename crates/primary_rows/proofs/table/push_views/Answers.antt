@@ -1,4 +1,4 @@
-use Rattle.std.proofs.Common.{◌≡◌, ◌<◌, length, refl, arith, map}
+use Rattle.std.proofs.Common.{◌<◌, length, refl, arith, map}
 use Rattle.primary_rows.specs.declared.views.RowView.{RowView}
 use Rattle.primary_rows.proofs.Viewed.{viewed-next}
 use Rattle.primary_rows.specs.Views.{seen_row}

@@ -1,4 +1,4 @@
-use Rattle.std.proofs.Common.{◌≡◌, ◌≤◌, ◌+◌, length, false}
+use Rattle.std.proofs.Common.{◌≡◌, ◌+◌, length, false}
 use Rattle.fragment_meaning.specs.Cut.{size, cut_from}
 use Rattle.sparql_tokens.specs.Nameless.{IsNameless}
 use Rattle.sparql_tokens.specs.Pieces.{before, StartsToken}

@@ -1,4 +1,3 @@
-use Rattle.std.proofs.Common.{◌≡◌}
 use Rattle.std.proofs.lemmas.Result.{on_ok_weaker}
 use Rattle.triple_ids.proofs.Noting.{noted_term, full_term, room_term}
 use Rattle.triple_ids.proofs.noted.note_term.Goals as goal

@@ -1,4 +1,4 @@
-use Rattle.std.proofs.Common.{◌≡◌, ◌<◌, ℕ, List, length, subst}
+use Rattle.std.proofs.Common.{◌<◌, ℕ, List, length, subst}
 use Rattle.layout_meaning.specs.Columns.{ColumnsOf, candidates_of}
 use Rattle.layout_meaning.specs.Side.{first_of}
 use Rattle.layout_meaning.proofs.Candidates.{candidates, first-below}

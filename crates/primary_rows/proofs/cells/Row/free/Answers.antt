@@ -1,7 +1,6 @@
-use Rattle.std.proofs.Common.{◌≡◌, ◌∙◌, ap, refl, List, map, true, replicate, pos}
-use Rattle.std.specs.List.{list_all}
+use Rattle.std.proofs.Common.{◌≡◌, refl, replicate, pos}
 use Rattle.primary_rows.specs.declared.cells.Pair as cells
-use Rattle.primary_rows.specs.Cells.{pair_of, fits}
+use Rattle.primary_rows.specs.Cells.{fits}
 use Rattle.primary_rows.proofs.CellSteps.{free-cells, free-fits}
 use Rattle.primary_rows.proofs.cells.Row.free.Goals as goal
 

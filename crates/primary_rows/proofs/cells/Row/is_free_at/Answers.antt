@@ -1,4 +1,4 @@
-use Rattle.std.proofs.Common.{◌≡◌, ◌∙◌, ◌<◌, ◌≤◌, ap, sym, arith, length, nat_lt, false, subst, map}
+use Rattle.std.proofs.Common.{◌≡◌, ◌∙◌, ◌<◌, ◌≤◌, ap, sym, arith, length, nat_lt, false}
 use Rattle.layout_meaning.specs.Side.{Row, free_at, is_none}
 use Rattle.primary_rows.specs.Cells.{pair_of}
 use Rattle.primary_rows.proofs.CellSteps.{free_at-cells, free_at-past_cells}

@@ -1,4 +1,4 @@
-use Rattle.std.proofs.Common.{◌≡◌, ◌∙◌, ◌≤◌, ap, sym, arith, length, Option, Some}
+use Rattle.std.proofs.Common.{◌∙◌, ◌≤◌, ap, sym, arith, length, Option, Some}
 use Rattle.layout_meaning.specs.Side.{Row, Pair, put_at}
 use Rattle.primary_rows.proofs.CellSteps.{put_at-cells, put_at-past_cells, set-fits}
 use Rattle.primary_rows.proofs.cells.Row.put.Goals as goal

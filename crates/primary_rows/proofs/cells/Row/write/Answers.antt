@@ -1,5 +1,5 @@
-use Rattle.std.proofs.Common.{◌≡◌, ◌∙◌, ◌<◌, ap, sym, arith, length, Option, Some}
-use Rattle.layout_meaning.specs.Side.{Row, write_in_row}
+use Rattle.std.proofs.Common.{◌∙◌, ◌<◌, ap, sym, arith, length}
+use Rattle.layout_meaning.specs.Side.{write_in_row}
 use Rattle.primary_rows.specs.Cells.{pair_with}
 use Rattle.primary_rows.proofs.CellSteps.{written-cells, set-fits}
 use Rattle.primary_rows.proofs.cells.Row.write.Goals as goal

@@ -1,4 +1,4 @@
-use Rattle.std.proofs.Common.{◌≡◌, ◌∙◌, ap, List, ℕ, nat_lt}
+use Rattle.std.proofs.Common.{◌∙◌, ap, List, ℕ, nat_lt}
 use Rattle.primary_rows.specs.Counted.{count_in}
 use Rattle.primary_rows.proofs.CountSteps.{has-count}
 use Rattle.primary_rows.proofs.counts.SpillCounts.has.Goals as goal

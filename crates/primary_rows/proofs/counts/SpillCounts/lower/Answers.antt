@@ -1,4 +1,4 @@
-use Rattle.std.proofs.Common.{◌≡◌, ◌∙◌, ◌<◌, ◌+◌, ◌-◌, ◌==◌, ℕ, List, arith, ap, sym, subst}
+use Rattle.std.proofs.Common.{◌≡◌, ◌∙◌, ◌<◌, ◌-◌, ◌==◌, ℕ, List, arith, ap, sym}
 use Rattle.layout_meaning.specs.Sound.{one_if}
 use Rattle.layout_meaning.proofs.RowsKept.{All-set, All-remove}
 use Rattle.primary_rows.specs.Counted.{count_in}

@@ -1,4 +1,4 @@
-use Rattle.std.proofs.Common.{◌≡◌, ◌<◌, ◌∙◌, sym, ap, arith, length}
+use Rattle.std.proofs.Common.{◌<◌, ◌∙◌, sym, ap, arith, length}
 use Rattle.layout_meaning.specs.Side.{Row, Pair, first_free, place_new}
 use Rattle.primary_rows.proofs.RowSteps.{placed_here, same_read}
 use Rattle.primary_rows.proofs.rows.EntityRows.place_new.Goals as goal

@@ -1,7 +1,6 @@
 use Rattle.std.proofs.Common.{◌≡◌, ◌∙◌, ◌+◌, ◌≤◌, ◌^◌, refl, sym, ap, ap₂, subst, arith}
 use Rattle.layout_meaning.specs.Side.{SideState}
 use Rattle.layout_meaning.specs.Lists.{ListsOf}
-use Rattle.layout_meaning.specs.Columns.{ColumnsOf}
 use Rattle.layout_meaning.specs.Rows.{SideOf}
 use Rattle.bulk_meaning.specs.Appended.{appended, appended_side}
 use Rattle.primary_rows.proofs.Both.{good-later, both-side, both-keep}

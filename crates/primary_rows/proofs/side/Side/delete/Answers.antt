@@ -1,4 +1,4 @@
-use Rattle.std.proofs.Common.{◌≡◌, List, ℕ, sym, subst}
+use Rattle.std.proofs.Common.{List, ℕ, sym, subst}
 use Rattle.layout_meaning.specs.Side.{Item}
 use Rattle.layout_meaning.specs.Rows.{SideOf, KeepsToNames}
 use Rattle.layout_meaning.proofs.Names.{keeps-taken_from}

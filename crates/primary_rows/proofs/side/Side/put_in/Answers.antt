@@ -1,6 +1,5 @@
-use Rattle.std.proofs.Common.{◌≡◌, ◌∙◌, ◌∷◌, [], ap, ◌≤◌, ◌+◌, ◌-◌, ◌^◌, sym, subst, arith, Option, Some, None, List, ℕ, nat_eq, false}
+use Rattle.std.proofs.Common.{◌≡◌, ◌∙◌, ap, ◌≤◌, ◌+◌, ◌-◌, ◌^◌, sym, arith, Option, Some, None, nat_eq, false}
 use Rattle.std.specs.List.{list_any}
-use Rattle.std.specs.Set.{remove_key}
 use Rattle.layout_meaning.specs.declared.value.Value.{Value}
 use Rattle.layout_meaning.specs.declared.value.Value.TheVariants.{One, Many}
 use Rattle.layout_meaning.specs.Side.{Item, SideState, elements_of, found_values}

@@ -1,4 +1,4 @@
-use Rattle.std.proofs.Common.{◌≡◌, ◌∙◌, ◌∷◌, [], ap, ◌≤◌, ◌+◌, ◌-◌, ◌^◌, sym, subst, arith, Option, Some, None, List, ℕ, nat_eq, true}
+use Rattle.std.proofs.Common.{◌≡◌, ◌∙◌, ap, ◌-◌, sym, subst, arith, Option, Some, None, List, ℕ, nat_eq, true}
 use Rattle.std.specs.Set.{remove_key}
 use Rattle.std.specs.List.{list_any}
 use Rattle.layout_meaning.proofs.ListsKept.{without_value-held}

@@ -1,5 +1,5 @@
-use Rattle.std.proofs.Common.{◌≡◌, ◌∙◌, ap, sym, subst, IsSome, None}
-use Rattle.layout_meaning.specs.Side.{Entities, Rows, find, rows_of, write, with_rows}
+use Rattle.std.proofs.Common.{◌∙◌, ap, sym, subst, IsSome, None}
+use Rattle.layout_meaning.specs.Side.{Entities, find, rows_of, write, with_rows}
 use Rattle.primary_rows.proofs.Counting.{row-there, counted-cleared, written-entities, entity-there}
 use Rattle.primary_rows.proofs.table.Table.clear.Goals as goal
 

@@ -1,4 +1,4 @@
-use Rattle.std.proofs.Common.{◌≡◌, ◌∙◌, ap, nat_lt}
+use Rattle.std.proofs.Common.{◌∙◌, ap, nat_lt}
 use Rattle.layout_meaning.specs.Rows.{is_spilled}
 use Rattle.primary_rows.proofs.Counting.{spilled-test}
 use Rattle.primary_rows.proofs.table.Table.is_spilled.Goals as goal

@@ -1,7 +1,7 @@
-use Rattle.std.proofs.Common.{◌≡◌, ◌∙◌, ◌+◌, ◌==◌, ap, ℕ, Bool, if◌then◌else◌}
+use Rattle.std.proofs.Common.{◌∙◌, ◌+◌, ◌==◌, ap, ℕ, Bool, if◌then◌else◌}
 use Rattle.layout_meaning.specs.Side.{Pair}
 use Rattle.layout_meaning.specs.Sound.{one_if}
-use Rattle.primary_rows.specs.Counted.{count_in, AreCounted}
+use Rattle.primary_rows.specs.Counted.{count_in}
 use Rattle.primary_rows.proofs.Counting.{counted-place}
 use Rattle.primary_rows.proofs.table.Table.place.Goals as goal
 

@@ -1,5 +1,5 @@
-use Rattle.std.proofs.Common.{◌≡◌, ◌∙◌, ap, sym, subst, IsSome, Option, Some}
-use Rattle.layout_meaning.specs.Side.{Entities, Rows, Pair, find, rows_of, write, with_rows}
+use Rattle.std.proofs.Common.{◌∙◌, ap, sym, subst, IsSome, Option, Some}
+use Rattle.layout_meaning.specs.Side.{Entities, Pair, find, rows_of, write, with_rows}
 use Rattle.primary_rows.proofs.Counting.{counted-rewritten, written-entities, entity-there}
 use Rattle.primary_rows.proofs.table.Table.rewrite.Goals as goal
 

@@ -1,4 +1,4 @@
-use Rattle.std.proofs.Common.{◌≡◌, ◌∙◌, ap, nat_lt, ℕ}
+use Rattle.std.proofs.Common.{◌∙◌, ap, nat_lt, ℕ}
 use Rattle.layout_meaning.specs.Rows.{is_spilled}
 use Rattle.primary_rows.specs.Counted.{count_in}
 use Rattle.primary_rows.proofs.Counting.{spilled-test, recounted}

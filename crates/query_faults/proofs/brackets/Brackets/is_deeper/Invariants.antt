@@ -1,4 +1,3 @@
-use Rattle.std.proofs.Common.{◌≡◌, ◌≤◌, length}
 use Rattle.query_faults.proofs.DepthLaws.{IsLeft}
 use Rattle.query_faults.proofs.brackets.Brackets.is_deeper.Given as goal
 

@@ -1,7 +1,7 @@
-use Rattle.std.proofs.Common.{◌≡◌, ◌∙◌, sym, ap, subst, Bool, true, false}
+use Rattle.std.proofs.Common.{◌≡◌, ◌∙◌, sym, ap, subst, true, false}
 use Rattle.layout_meaning.specs.Side.{Item, is_held}
 use Rattle.layout_meaning.specs.Rows.{SideOf, placed_in, taken_from}
-use Rattle.standing_meaning.specs.Sides.{SidesOf, both_placed, turned, AreSides, AreAsBefore}
+use Rattle.standing_meaning.specs.Sides.{SidesOf, both_placed, AreAsBefore}
 use Rattle.standing_meaning.proofs.Steps.{sides_after_placing, sides-next, placed-back, before-back, both-held, with_next}
 use Rattle.layout_meaning.specs.Columns.{candidates_of}
 use Rattle.layout_meaning.proofs.Changes.{next-placed}

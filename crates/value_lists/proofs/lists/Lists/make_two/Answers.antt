@@ -1,4 +1,4 @@
-use Rattle.std.proofs.Common.{◌≡◌, ◌+◌, ◌≤◌, ◌^◌, ◌∷◌, [], arith, ap, sym, Bool, true, false, nat_eq, refl, if◌then◌else◌}
+use Rattle.std.proofs.Common.{◌∷◌, [], arith}
 use Rattle.layout_meaning.specs.Lists.{ListsOf}
 use Rattle.layout_meaning.proofs.ListsKept.{with_list-sound}
 use Rattle.layout_meaning.proofs.RowsKept.{two-sound}

@@ -1,6 +1,6 @@
 use Rattle.std.proofs.Common.{◌≡◌, ◌∙◌, ◌∷◌, ◌++◌, [], ap, sym, subst, List, ℕ, nat_eq, false}
 use Rattle.std.specs.List.{list_any}
-use Rattle.value_lists.specs.Values.{AreValues, IsIndexOf}
+use Rattle.value_lists.specs.Values.{IsIndexOf}
 use Rattle.value_lists.proofs.Kept.{once-more}
 use Rattle.value_lists.proofs.values.Values.put.Goals as goal
 

@@ -2,7 +2,6 @@ use Rattle.std.proofs.Common.{◌≡◌, ◌∙◌, ◌<◌, ap, sym, subst, ari
 use Rattle.std.specs.List.{list_any}
 use Rattle.std.specs.Set.{remove_key}
 use Rattle.std.specs.HashSet.{hash_set_len}
-use Rattle.value_lists.specs.Values.{AreValues, IsIndexOf}
 use Rattle.value_lists.proofs.Kept.{once-removed, any-removed}
 use Rattle.value_lists.proofs.values.Values.take.Goals as goal
 

@@ -12,19 +12,19 @@ use Rattle.std.proofs.lemmas.Nat.Bits.{bit_at-lt, bit_at_or, bit_at-pow_same, bi
 use Rattle.bit_sets.specs.Blocks.{numbers_of, numbers_in}
 
 -- ---- one block
-range_before : (n a k : ℕ) → n < a → list_any (nat_eq n) (range_with_len a k) ≡ false
+pub range_before : (n a k : ℕ) → n < a → list_any (nat_eq n) (range_with_len a k) ≡ false
 range_before n a zero h = refl
 range_before n a (suc k) h =
     let first : nat_eq n a ≡ false = grind (arith, nat_tests) in
     rw first (range_before n (a + 1) k (omega arith))
 
-range_after : (n a k : ℕ) → a + k ≤ n → list_any (nat_eq n) (range_with_len a k) ≡ false
+pub range_after : (n a k : ℕ) → a + k ≤ n → list_any (nat_eq n) (range_with_len a k) ≡ false
 range_after n a zero h = refl
 range_after n a (suc k) h =
     let first : nat_eq n a ≡ false = grind (arith, nat_tests) in
     rw first (range_after n (a + 1) k (omega arith))
 
-range_within : (n a k : ℕ) → a ≤ n → n < a + k → list_any (nat_eq n) (range_with_len a k) ≡ true
+pub range_within : (n a k : ℕ) → a ≤ n → n < a + k → list_any (nat_eq n) (range_with_len a k) ≡ true
 range_within n a zero h l = absurd (omega arith)
 range_within n a (suc k) h l = by (nat_eq n a) refl (λ differ. range_within n (a + 1) k differ (omega arith))
   where
@@ -55,7 +55,7 @@ or_and true false true = refl
 or_and true false false = refl
 or_and false b r = refl
 
-has_or : (n b v w : ℕ) → list_any (nat_eq n) (numbers_of (b, bit_or v w)) ≡ (list_any (nat_eq n) (numbers_of (b, v)) || list_any (nat_eq n) (numbers_of (b, w)))
+pub has_or : (n b v w : ℕ) → list_any (nat_eq n) (numbers_of (b, bit_or v w)) ≡ (list_any (nat_eq n) (numbers_of (b, v)) || list_any (nat_eq n) (numbers_of (b, w)))
 has_or n b v w =
     let i = n % 64 in
     let within = list_any (nat_eq n) (range_with_len (b * 64) 64) in
@@ -66,7 +66,7 @@ pub has_in : (n : ℕ) (e : ℕ × ℕ) (es : List (ℕ × ℕ)) → list_any (n
 unfolding numbers_in
 has_in n e es = list_any-append (nat_eq n) (numbers_of e) (numbers_in es)
 
-or_last : (a b c : Bool) → ((a || b) || c) ≡ ((a || c) || b)
+pub or_last : (a b c : Bool) → ((a || b) || c) ≡ ((a || c) || b)
 or_last true b c = refl
 or_last false true true = refl
 or_last false true false = refl
@@ -77,7 +77,7 @@ pub or_assoc : (a b c : Bool) → (a || (b || c)) ≡ ((a || b) || c)
 or_assoc true b c = refl
 or_assoc false b c = refl
 
-or_swap : (a b : Bool) → (a || b) ≡ (b || a)
+pub or_swap : (a b : Bool) → (a || b) ≡ (b || a)
 or_swap true true = refl
 or_swap true false = refl
 or_swap false true = refl

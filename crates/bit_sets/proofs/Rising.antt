@@ -13,14 +13,14 @@ use Rattle.bit_sets.specs.Places.{IsGap}
 less : (a b : ℕ) → a < b → nat_cmp a b ≡ Less
 less a b h = grind (arith, nat_tests)
 
-below : (a b : ℕ) → nat_cmp a b ≡ Less → a < b
+pub below : (a b : ℕ) → nat_cmp a b ≡ Less → a < b
 below a b h = grind (arith, nat_tests)
 
-each : {X : Type 0} (P Q : X → Type 0) (xs : List X) → ((x : X) → P x → Q x) → AllByRecursion P xs → AllByRecursion Q xs
+pub each : {X : Type 0} (P Q : X → Type 0) (xs : List X) → ((x : X) → P x → Q x) → AllByRecursion P xs → AllByRecursion Q xs
 each P Q [] f a = tt
 each P Q (x ∷ xs) f a = (f x a.0, each P Q xs f a.1)
 
-each_append : {X : Type 0} (P : X → Type 0) (xs ys : List X) → AllByRecursion P xs → AllByRecursion P ys → AllByRecursion P (xs ++ ys)
+pub each_append : {X : Type 0} (P : X → Type 0) (xs ys : List X) → AllByRecursion P xs → AllByRecursion P ys → AllByRecursion P (xs ++ ys)
 each_append P [] ys a b = b
 each_append P (x ∷ xs) ys a b = (a.0, each_append P xs ys a.1 b)
 
@@ -46,7 +46,7 @@ each_insert P es zero x a p = (p, a)
 each_insert P [] (suc i) x a p = (p, tt)
 each_insert P (y ∷ es) (suc i) x a p = (a.0, each_insert P es i x a.1 p)
 
-above : (b : ℕ) (es : List (ℕ × ℕ)) → ((k : ℕ) (d : ℕ × ℕ) → k < length es → b < (get_or es k d).0) → AllByRecursion (λ z. nat_cmp b z ≡ Less) (keys_of es)
+pub above : (b : ℕ) (es : List (ℕ × ℕ)) → ((k : ℕ) (d : ℕ × ℕ) → k < length es → b < (get_or es k d).0) → AllByRecursion (λ z. nat_cmp b z ≡ Less) (keys_of es)
 above b [] h = tt
 above b (e ∷ es) h = (less b e.0 (h 0 e (omega arith)), above b es (λ k d l. h (suc k) d (omega arith)))
 
@@ -100,7 +100,7 @@ in_from b m (e ∷ es) h a =
     let later : b < e.0 = below b e.0 a.0 in
     each_append (λ x. m ≤ x) (numbers_of e) (flat_map numbers_of es) (of_from m e (omega arith)) (in_from b m es h a.1)
 
-append_rises : (m : ℕ) (xs ys : List ℕ) → IsStrictlySortedBy nat_cmp xs → IsStrictlySortedBy nat_cmp ys → AllByRecursion (λ x. x < m) xs → AllByRecursion (λ y. m ≤ y) ys → IsStrictlySortedBy nat_cmp (xs ++ ys)
+pub append_rises : (m : ℕ) (xs ys : List ℕ) → IsStrictlySortedBy nat_cmp xs → IsStrictlySortedBy nat_cmp ys → AllByRecursion (λ x. x < m) xs → AllByRecursion (λ y. m ≤ y) ys → IsStrictlySortedBy nat_cmp (xs ++ ys)
 unfolding IsStrictlySortedBy
 append_rises m [] ys s t a b = t
 append_rises m (x ∷ xs) ys s t a b = (each_append (λ y. nat_cmp x y ≡ Less) xs ys s.0 (each (λ y. m ≤ y) (λ y. nat_cmp x y ≡ Less) ys (λ y h. less x y (omega (arith, a.0))) b), append_rises m xs ys s.1 t a.1 b)

@@ -15,7 +15,7 @@ module _ (es : List (ℕ × ℕ)) (rising : IsStrictlySortedBy nat_cmp (keys_of 
   abbrev key_at : ℕ → ℕ
   key_at i = (get_or es i (0, 0)).0
 
-  rises : (i j : ℕ) → i < j → j < length es → key_at i < key_at j
+  pub rises : (i j : ℕ) → i < j → j < length es → key_at i < key_at j
   rises i j l m =
       let key = λ (e : ℕ × ℕ). e.0 in
       rw (← get_or-map key es i (0, 0), ← get_or-map key es j (0, 0)) (below_from_sorted (keys_of es) i j 0 rising l (omega (arith, length-keys_of es)))

@@ -1,10 +1,11 @@
 //! A set of numbers.
 
-ghost use Rattle.std.specs.Prelude.{◌≡◌, ◌||◌, [], ℕ, nat_eq, IfOk, OnOk};
+ghost use Rattle.std.specs.Prelude.{◌≡◌, ◌||◌, [], ℕ, length, nat_eq, IfOk, OnOk};
 ghost use Rattle.std.specs.List.{list_any};
 ghost use Rattle.std.specs.List.Sorted.{IsStrictlySortedBy};
 ghost use Rattle.std.specs.Ordering.{nat_cmp};
 
+use crate::queries::{count_numbers, has_number, have_common};
 use crate::words::{add_word, add_words, all_numbers};
 use std::alloc::{AllocError, Global};
 use std::marker::Model;
@@ -51,7 +52,7 @@ impl BitSet {
     {
         // Numbers often come rising.
         let last = self.words.len().saturating_sub(1);
-        let _after = add_word(&mut self.words, last, number / 64, 1 << (number % 64))?;
+        add_word(&mut self.words, last, number / 64, 1 << (number % 64))?;
         Ok(())
     }
 
@@ -64,6 +65,28 @@ impl BitSet {
         ensures { OnOk result ((n : ℕ) → list_any (nat_eq n) self.new ≡ (list_any (nat_eq n) self.old || list_any (nat_eq n) other.now)) }
     {
         add_words(&mut self.words, other.words.as_slice())
+    }
+
+    /// How many numbers it has.
+    pub fn len(&self) -> usize
+        ensures value { result ≡ length self.now }
+        ensures rising { IsStrictlySortedBy nat_cmp self.now }
+    {
+        count_numbers(self.words.as_slice())
+    }
+
+    /// Whether it has a number.
+    pub fn contains(&self, number: u32) -> bool
+        ensures { result ≡ list_any (nat_eq number) self.now }
+    {
+        has_number(self.words.as_slice(), number)
+    }
+
+    /// Whether the sets have a number in common.
+    pub fn meets(&self, other: &BitSet) -> bool
+        ensures { result ≡ list_any (λ n. list_any (nat_eq n) other.now) self.now }
+    {
+        have_common(self.words.as_slice(), other.words.as_slice())
     }
 
     /// The numbers, rising.

@@ -2,6 +2,7 @@
 #![tactic(auto)]
 
 mod bit_set;
+mod queries;
 mod words;
 
 pub use bit_set::BitSet;

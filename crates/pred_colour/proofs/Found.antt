@@ -1,5 +1,5 @@
 -- The place of a predicate among rising ones.
-use Rattle.std.proofs.Common.{◌≡◌, ◌<◌, ◌≤◌, ℕ, nat_eq, false, List, length, get_or, sym, arith, inl, inr, ◌⊎◌, Err}
+use Rattle.std.proofs.Common.{◌≡◌, ◌<◌, ◌≤◌, ◌^◌, ℕ, subst, nat_eq, false, List, length, get_or, sym, arith, inl, inr, ◌⊎◌, Err}
 use Rattle.std.specs.List.{All}
 use Rattle.std.specs.List.Sorted.{IsStrictlySortedBy, IsBinarySearchResult}
 use Rattle.std.specs.Ordering.{nat_cmp}
@@ -8,6 +8,7 @@ use Rattle.std.proofs.lemmas.List.{get_or_default}
 use Rattle.std.proofs.lemmas.List.Folds.{list_any_none, list_any_at}
 use Rattle.std.proofs.lemmas.List.Sorted.{searched}
 use Rattle.std.proofs.lemmas.Map.Keys.{non_decreasing_from_sorted, below_from_sorted}
+use Rattle.std.proofs.lemmas.Map.Views.{length-le_from_below}
 use Rattle.colour_meaning.specs.Interference.{has}
 use Rattle.pred_colour.specs.GraphRows.{pred_at, stands_in, AreBelow}
 use Rattle.pred_colour.proofs.Members.{same_on}
@@ -44,3 +45,9 @@ has_place xs places i s l b = same_on (nat_eq i) (λ j. nat_eq (pred_at xs i) (p
 
 pub below_at : (n : ℕ) (places : List ℕ) (k : ℕ) → AreBelow n places → k < length places → get_or places k 0 < n
 below_at n places k b l = b (get_or places k 0) (list_any_at (nat_eq (get_or places k 0)) places k 0 l (grind arith))
+
+-- a place of rising numbers of 32 bits is such a number too
+pub place_fits : (xs : List ℕ) (i : ℕ) → IsStrictlySortedBy nat_cmp xs → ((k : ℕ) → get_or xs k 0 < 2 ^ 32) → i < length xs → i < 2 ^ 32
+place_fits xs i s fit l =
+    let few : length xs ≤ 2 ^ 32 = length-le_from_below (2 ^ 32) xs s (λ k d m. subst (λ (x : ℕ). x < 2 ^ 32) (get_or_default xs k 0 d m) (fit k)) in
+    omega arith

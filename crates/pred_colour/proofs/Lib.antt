@@ -1,7 +1,9 @@
 pub mod Ordered
 pub mod Joins
-pub mod Columns
+pub mod Taken
 pub mod Members
 pub mod Found
 pub mod Neighbourhood
 pub mod Once
+pub mod Degrees
+pub mod Seen

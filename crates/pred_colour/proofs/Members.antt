@@ -13,7 +13,7 @@ same_truth true b f g = sym (f refl)
 same_truth false true f g = g refl
 same_truth false false f g = refl
 
-at_self : (n : ℕ) → nat_eq n n ≡ true
+pub at_self : (n : ℕ) → nat_eq n n ≡ true
 at_self n = grind arith
 
 -- a test that a member passes
@@ -68,7 +68,7 @@ not_both : (m n : ℕ) → nat_cmp m n ≡ Less → nat_cmp n m ≡ Less → tru
 not_both m n h k = grind arith
 
 -- what comes before all isn't among them
-absent : (x : ℕ) (xs : List ℕ) → AllByRecursion (λ y. nat_cmp x y ≡ Less) xs → has x xs ≡ false
+pub absent : (x : ℕ) (xs : List ℕ) → AllByRecursion (λ y. nat_cmp x y ≡ Less) xs → has x xs ≡ false
 absent x xs a = by (has x xs) refl
   where
     by : (b : Bool) → has x xs ≡ b → b ≡ false

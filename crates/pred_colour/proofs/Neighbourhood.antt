@@ -12,7 +12,7 @@ use Rattle.std.proofs.lemmas.List.Folds.{list_any_at, Any-from_list_any}
 use Rattle.std.proofs.lemmas.List.Kept.{IsStrictlySortedBy-filter}
 use Rattle.std.proofs.lemmas.Map.Keys.{below_from_sorted, Less-from_sorted, IsDistinct-from_apart}
 use Rattle.std.proofs.lemmas.Map.Views.{any-filter_same}
-use Rattle.colour_meaning.specs.Interference.{has, neighbours_of, interfere, IsInterference}
+use Rattle.colour_meaning.specs.Interference.{Graph, has, neighbours_of, interfere, IsInterference}
 use Rattle.colour_meaning.proofs.Steps.{same_number, at_itself, at_other}
 use Rattle.pred_colour.specs.Entities.{are_joined}
 use Rattle.pred_colour.specs.GraphRows.{pred_at, row_at, is_other, others, with_rows, graph_of, AreBelow, AreRows}
@@ -45,7 +45,7 @@ implied : (a b : Bool) → (a ≡ true → b ≡ true) → (a && b) ≡ a
 implied true b f = f refl
 implied false b f = refl
 
-has_others : (preds places : List ℕ) (p q : ℕ) → AreBelow (length preds) places → has q (others preds places p) ≡ is_other preds places p q
+pub has_others : (preds places : List ℕ) (p q : ℕ) → AreBelow (length preds) places → has q (others preds places p) ≡ is_other preds places p q
 has_others preds places p q b =
     has_filter (is_other preds places p) q preds ∙ implied (is_other preds places p q) (has q preds) (λ h.
     let m = a_member (λ j. nat_eq q (pred_at preds j)) places (and_parts (not (nat_eq q p)) (list_any (λ j. nat_eq q (pred_at preds j)) places) h).1 in
@@ -66,6 +66,9 @@ pub keys_with_rows : (all preds : List ℕ) (rows : List (List ℕ)) → length 
 keys_with_rows all [] rows e = refl
 keys_with_rows all (p ∷ preds) [] e = absurd (omega arith)
 keys_with_rows all (p ∷ preds) (row ∷ rows) e = ap (λ (ks : List ℕ). p ∷ ks) (keys_with_rows all preds rows (omega arith))
+
+pub preds_are_keys : (preds : List ℕ) (rows : List (List ℕ)) (g : Graph) → graph_of preds rows ≡ g → length rows ≡ length preds → preds ≡ keys_of g
+preds_are_keys preds rows g is count = sym (keys_with_rows preds preds rows count) ∙ ap keys_of is
 
 -- the neighbours of the predicate at a place
 pub neighbours_at : (all preds : List ℕ) (rows : List (List ℕ)) (i : ℕ) → IsStrictlySortedBy nat_cmp preds → length rows ≡ length preds → i < length preds

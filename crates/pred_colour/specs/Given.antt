@@ -1,11 +1,15 @@
--- The colours that were given, as pairs, and the map that finds them.
-use Rattle.std.specs.Prelude.{◌≡◌, ◌<◌, ℕ, List, IfSome}
-use Rattle.colour_meaning.specs.Colouring.{column_of}
+-- The colours that were given, as pairs.
+use Rattle.std.specs.Prelude.{ℕ, List, map}
+use Rattle.pred_colour.specs.Columns.{AreColumns}
 use Rattle.pred_colour.specs.declared.colours.Coloured.{Coloured}
+use Rattle.pred_colour.specs.declared.colours.Colours.{Colours}
 
 abbrev pub pair_of : Coloured → ℕ × ℕ
 pair_of c = (c.pred, c.column)
 
-pub record AreColumns (given columns : List (ℕ × ℕ)) : Type 0 where
-  pub found : (p : ℕ) → column_of columns p ≡ column_of given p
-  pub below : (p : ℕ) → IfSome (column_of columns p) (λ c. c < 32)
+abbrev pub pairs_of : Colours → List (ℕ × ℕ)
+pairs_of c = map pair_of c.given.items
+
+-- they keep k sets, at whose places among these predicates stand those with each column
+abbrev pub HaveColumns : List ℕ → ℕ → Colours → Type 0
+HaveColumns preds k c = AreColumns preds k (pairs_of c) c.places.items

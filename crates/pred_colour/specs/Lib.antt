@@ -1,3 +1,4 @@
+pub mod Columns
 pub mod Entities
 pub mod Given
 pub mod GraphRows

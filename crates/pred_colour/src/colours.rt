@@ -1,12 +1,13 @@
 //! The colours that were given.
 
-ghost use Rattle.std.specs.Prelude.{◌≡◌, ◌<◌, ◌∷◌, ◌++◌, [], map, IfSome, OnOk, None};
-ghost use Rattle.colour_meaning.specs.Colouring.{column_of};
-ghost use Rattle.pred_colour.specs.Given.{pair_of};
+ghost use Rattle.std.specs.Prelude.{◌≡◌, ◌<◌, ◌∷◌, ◌++◌, ◌&&◌, ◌||◌, [], ℕ, nat_eq, length, replicate, map, IfOk, OnOk};
+ghost use Rattle.colour_meaning.specs.Interference.{has};
+ghost use Rattle.pred_colour.specs.Given.{pair_of, pairs_of};
+ghost use Rattle.pred_colour.specs.GraphRows.{row_at};
 
+use crate::places::empty_sets;
+use bit_sets::BitSet;
 use std::alloc::{AllocError, Global};
-use std::collections::BTreeMap;
-use std::marker::Model;
 
 /// A predicate and its column, counted from 0.
 #[derive(Clone, Copy, Debug, PartialEq, Eq)]
@@ -15,57 +16,50 @@ pub struct Coloured {
     pub column: u32,
 }
 
-/// Predicates with their columns in the order in which these were given. Contracts see the list of pairs.
+/// Predicates with their columns.
 #[derive(Drop)]
 pub(crate) struct Colours {
+    /// In the order in which they were given.
     given: Vec<Coloured>,
-    columns: BTreeMap<u32, u32>,
-}
-
-impl Model for Colours {
-    ghost use Rattle.std.specs.Prelude.{List, ℕ, map};
-    ghost use Rattle.pred_colour.specs.Given.{pair_of, AreColumns};
-
-    ghost Value = { List (ℕ × ℕ) };
-
-    ghost view = { λ c. map pair_of c.given.items };
-
-    ghost invariant = { λ c. AreColumns (map pair_of c.given.items) c.columns.entries };
+    /// For each column the places of the predicates that have it.
+    places: Vec<BitSet>,
 }
 
 impl Colours {
-    pub(crate) fn new(alloc: Global) -> Colours
-        ensures { result ≡ [] }
+    /// No colours yet, of k columns.
+    pub(crate) fn new(alloc: Global, k: u32) -> Result<Colours, AllocError>
+        ensures none { IfOk result (λ colours. pairs_of colours ≡ []) }
+        ensures places { IfOk result (λ colours. colours.places.items ≡ replicate k []) }
     {
-        Colours {
+        let places = empty_sets(alloc, k as usize)?;
+        Ok(Colours {
             given: Vec::new(alloc),
-            columns: BTreeMap::new(alloc),
-        }
+            places,
+        })
     }
 
-    pub(crate) fn column_of(&self, pred: u32) -> Option<u32>
-        ensures value { result ≡ column_of self.now pred }
-        ensures below { IfSome result (λ c. c < 32) }
+    /// The places of the predicates that have a column.
+    pub(crate) fn places(&self, column: u32) -> &BitSet
+        requires { column < length self.now.places.items }
+        ensures { result.now ≡ row_at self.now.places.items column }
     {
-        self.columns.get(&pred).copied()
+        &self.places[column as usize]
     }
 
-    /// Gives a column to a predicate that has none.
-    pub(crate) fn give(&mut self, pred: u32, column: u32) -> Result<(), AllocError>
-        requires new { column_of self.old pred ≡ None }
-        requires below { column < 32 }
-        ensures { OnOk result (self.new ≡ self.old ++ (pred, column) ∷ []) }
+    /// Gives a column to the predicate at a place.
+    pub(crate) fn give(&mut self, pred: u32, column: u32, place: u32) -> Result<(), AllocError>
+        requires { column < length self.old.places.items }
+        ensures given { OnOk result (pairs_of self.new ≡ pairs_of self.old ++ (pred, column) ∷ []) }
+        ensures count { OnOk result (length self.new.places.items ≡ length self.old.places.items) }
+        ensures places { OnOk result ((c n : ℕ) → has n (row_at self.new.places.items c) ≡ (has n (row_at self.old.places.items c) || (nat_eq c column && nat_eq n place))) }
     {
-        self.given.reserve(1)?;
-        let Ok(_old) = self.columns.insert(pred, column) else {
-            return Err(AllocError);
-        };
-        self.given.push_reserved(Coloured { pred, column });
+        self.places[column as usize].insert(place)?;
+        self.given.push(Coloured { pred, column })?;
         Ok(())
     }
 
     pub(crate) fn into_items(self) -> Vec<Coloured>
-        ensures { map pair_of result.items ≡ self }
+        ensures { map pair_of result.items ≡ pairs_of self }
     {
         self.given
     }

@@ -1,16 +1,16 @@
 //! The graph of predicates that interfere.
 
-ghost use Rattle.std.specs.Prelude.{◌≡◌, ◌<◌, nat_eq, not, length, map, IfOk};
-ghost use Rattle.std.specs.List.{filter};
+ghost use Rattle.std.specs.Prelude.{◌≡◌, ◌<◌, length, map, false, IfOk, IfSome, IfNone};
+ghost use Rattle.std.specs.List.{list_any};
 ghost use Rattle.std.specs.List.Sorted.{IsStrictlySortedBy};
 ghost use Rattle.std.specs.Ordering.{nat_cmp};
 ghost use Rattle.std.specs.Map.{keys_of};
-ghost use Rattle.colour_meaning.specs.Interference.{neighbours_of, IsInterference};
+ghost use Rattle.colour_meaning.specs.Interference.{has, neighbours_of, IsInterference};
 ghost use Rattle.pred_colour.specs.Entities.{preds_of};
-ghost use Rattle.pred_colour.specs.GraphRows.{pred_at, row_at, others, graph_of, AreBelow, AreRows};
+ghost use Rattle.pred_colour.specs.GraphRows.{pred_at, row_at, stands_in, others, graph_of, AreBelow, AreRows};
 ghost use Rattle.pred_colour.specs.Turns.{turn_of};
 
-use crate::places::place_of;
+use crate::places::{others_than, place_of};
 use crate::predicates::predicates;
 use crate::rows::joined;
 use crate::turns::Turn;
@@ -46,10 +46,24 @@ impl Model for Graph {
 }
 
 impl Graph {
-    pub(crate) fn neighbours(&self, alloc: Global, pred: u32) -> Result<Vec<u32>, AllocError>
-        ensures { IfOk result (λ list. list.items ≡ neighbours_of self.now pred) }
+    /// The place of a predicate among those of the graph, by rising id.
+    pub(crate) fn place_of(&self, pred: u32) -> Option<u32>
+        ensures within { IfSome result (λ place. place < length (keys_of self.now)) }
+        ensures found { IfSome result (λ place. pred_at (keys_of self.now) place ≡ pred) }
+        ensures absent { IfNone result (has pred (keys_of self.now) ≡ false) }
     {
-        neighbours(alloc, self.preds.as_slice(), self.rows.as_slice(), pred)
+        place_of(self.preds.as_slice(), pred)
+    }
+
+    /// Whether a neighbour of the predicate at a place stands at one of the places.
+    pub(crate) fn has_neighbour_in(&self, place: u32, places: &BitSet) -> bool
+        requires within { place < length (keys_of self.now) }
+        requires below { AreBelow (length (keys_of self.now)) places.now }
+        requires apart { has place places.now ≡ false }
+        ensures { result ≡ list_any (stands_in (keys_of self.now) places.now) (neighbours_of self.now (pred_at (keys_of self.now) place)) }
+    {
+        // The row may have the own place too: it is apart from the places.
+        self.rows[place as usize].meets(places)
     }
 
     /// The predicates with their numbers of neighbours, by rising id.
@@ -70,62 +84,25 @@ pub fn interference(alloc: Global, entities: &[EntityPreds]) -> Result<Graph, Al
     Ok(Graph { preds, rows })
 }
 
-fn neighbours(
-    alloc: Global,
-    preds: &[u32],
-    rows: &[BitSet],
-    pred: u32,
-) -> Result<Vec<u32>, AllocError>
-    requires { AreRows preds.now rows.now }
-    ensures { IfOk result (λ list. list.items ≡ neighbours_of (graph_of preds.now rows.now) pred) }
-{
-    match place_of(preds, pred) {
-        Some(place) => neighbours_at(alloc, preds, rows, place),
-        None => Ok(Vec::new(alloc)),
-    }
-}
-
 fn turns(alloc: Global, preds: &[u32], rows: &[BitSet]) -> Result<Vec<Turn>, AllocError>
     requires { AreRows preds.now rows.now }
     ensures { IfOk result (λ turns. turns.items ≡ map turn_of (graph_of preds.now rows.now)) }
 {
     let mut turns = Vec::new(alloc);
     for place in 0..preds.len() {
-        let neighbours = neighbours_at(alloc, preds, rows, place)?;
-        turns.push(Turn {
-            pred: preds[place],
-            degree: neighbours.len(),
-        })?;
+        turns.push(turn_at(preds, rows, place))?;
     }
     Ok(turns)
 }
 
-/// The neighbours of the predicate at a place.
-fn neighbours_at(
-    alloc: Global,
-    preds: &[u32],
-    rows: &[BitSet],
-    place: usize,
-) -> Result<Vec<u32>, AllocError>
+/// The turn of the predicate at a place.
+fn turn_at(preds: &[u32], rows: &[BitSet], place: usize) -> Turn
     requires rows { AreRows preds.now rows.now }
     requires within { place < length preds.now }
-    ensures { IfOk result (λ list. list.items ≡ others preds.now (row_at rows.now place) (pred_at preds.now place)) }
+    ensures { result ≡ turn_of (pred_at preds.now place, others preds.now (row_at rows.now place) (pred_at preds.now place)) }
 {
-    let places = rows[place].numbers(alloc)?;
-    preds_but(alloc, preds, places.as_slice(), preds[place])
-}
-
-/// The predicates at these places but one.
-fn preds_but(alloc: Global, preds: &[u32], places: &[u32], but: u32) -> Result<Vec<u32>, AllocError>
-    requires { AreBelow (length preds.now) places.now }
-    ensures { IfOk result (λ list. list.items ≡ filter (λ q. not (nat_eq q but)) (map (pred_at preds.now) places.now)) }
-{
-    let mut list = Vec::new(alloc);
-    for place in places {
-        let pred = preds[*place as usize];
-        if pred != but {
-            list.push(pred)?;
-        }
+    Turn {
+        pred: preds[place],
+        degree: others_than(&rows[place], place as u32),
     }
-    Ok(list)
 }

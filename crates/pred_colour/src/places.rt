@@ -1,6 +1,7 @@
 //! The places of predicates.
 
-ghost use Rattle.std.specs.Prelude.{◌≡◌, ◌<◌, ◌||◌, ℕ, nat_eq, length, true, false, IfSome, IfNone, IfOk, OnOk};
+ghost use Rattle.std.specs.Prelude.{◌≡◌, ◌<◌, ◌||◌, [], ℕ, nat_eq, not, length, replicate, true, false, IfSome, IfNone, IfOk, OnOk};
+ghost use Rattle.std.specs.List.{filter};
 ghost use Rattle.std.specs.List.Sorted.{IsStrictlySortedBy};
 ghost use Rattle.std.specs.Ordering.{nat_cmp};
 ghost use Rattle.colour_meaning.specs.Interference.{has};
@@ -10,13 +11,39 @@ use bit_sets::BitSet;
 use std::alloc::{AllocError, Global};
 
 /// The place of a predicate among rising ones.
-pub(crate) fn place_of(preds: &[u32], pred: u32) -> Option<usize>
+pub(crate) fn place_of(preds: &[u32], pred: u32) -> Option<u32>
     requires { IsStrictlySortedBy nat_cmp preds.now }
     ensures within { IfSome result (λ place. place < length preds.now) }
     ensures found { IfSome result (λ place. pred_at preds.now place ≡ pred) }
     ensures absent { IfNone result (has pred preds.now ≡ false) }
 {
-    preds.binary_search(&pred).ok()
+    match preds.binary_search(&pred) {
+        Ok(place) => Some(place as u32),
+        Err(_) => None,
+    }
+}
+
+/// Sets of no places.
+pub(crate) fn empty_sets(alloc: Global, count: usize) -> Result<Vec<BitSet>, AllocError>
+    ensures { IfOk result (λ sets. sets.items ≡ replicate count []) }
+{
+    let mut sets = Vec::new(alloc);
+    for _ in 0..count {
+        sets.push(BitSet::new(alloc))?;
+    }
+    Ok(sets)
+}
+
+/// How many places there are besides this one.
+pub(crate) fn others_than(places: &BitSet, place: u32) -> usize
+    ensures value { result ≡ length (filter (λ j. not (nat_eq j place)) places.now) }
+    ensures rising { IsStrictlySortedBy nat_cmp places.now }
+{
+    if places.contains(place) {
+        places.len() - 1
+    } else {
+        places.len()
+    }
 }
 
 /// The places among all predicates, which rise, of some of them.
@@ -40,7 +67,7 @@ fn note_place(places: &mut BitSet, all: &[u32], pred: u32) -> Result<(), AllocEr
     ensures below { OnOk result (AreBelow (length all.now) places.old → AreBelow (length all.now) places.new) }
 {
     match place_of(all, pred) {
-        Some(place) => places.insert(place as u32),
+        Some(place) => places.insert(place),
         None => Ok(()),
     }
 }

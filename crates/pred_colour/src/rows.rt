@@ -1,6 +1,6 @@
 //! The rows of a graph: for each predicate the places of those that it occurs with.
 
-ghost use Rattle.std.specs.Prelude.{◌≡◌, ◌<◌, ◌&&◌, ◌||◌, [], ℕ, nat_eq, length, replicate, true, map, IfOk, OnOk};
+ghost use Rattle.std.specs.Prelude.{◌≡◌, ◌<◌, ◌&&◌, ◌||◌, ℕ, nat_eq, length, true, map, IfOk, OnOk};
 ghost use Rattle.std.specs.List.{list_any};
 ghost use Rattle.std.specs.List.Sorted.{IsStrictlySortedBy};
 ghost use Rattle.std.specs.Ordering.{nat_cmp};
@@ -9,19 +9,9 @@ ghost use Rattle.pred_colour.specs.Entities.{preds_of, are_joined};
 ghost use Rattle.pred_colour.specs.GraphRows.{pred_at, row_at, is_other, AreBelow, AreRows};
 
 use crate::graph::EntityPreds;
-use crate::places::places_of;
+use crate::places::{empty_sets, places_of};
 use bit_sets::BitSet;
 use std::alloc::{AllocError, Global};
-
-fn empty_rows(alloc: Global, count: usize) -> Result<Vec<BitSet>, AllocError>
-    ensures { IfOk result (λ rows. rows.items ≡ replicate count []) }
-{
-    let mut rows = Vec::new(alloc);
-    for _ in 0..count {
-        rows.push(BitSet::new(alloc))?;
-    }
-    Ok(rows)
-}
 
 /// A row for each of all predicates, which rise: two are joined where some entity has both.
 pub(crate) fn joined(
@@ -34,7 +24,7 @@ pub(crate) fn joined(
     ensures rows { IfOk result (λ rows. AreRows all.now rows.items) }
     ensures joined { IfOk result (λ rows. (i q : ℕ) → i < length all.now → is_other all.now (row_at rows.items i) (pred_at all.now i) q ≡ list_any (are_joined (pred_at all.now i) q) (map preds_of entities.now)) }
 {
-    let mut rows = empty_rows(alloc, all.len())?;
+    let mut rows = empty_sets(alloc, all.len())?;
     for entity in entities {
         join_entity(rows.as_mut_slice(), alloc, all, entity.preds.as_slice())?;
     }

@@ -5,4 +5,4 @@ use Rattle.bit_sets.proofs.bit_set.BitSet.insert.Goals as goal
 
 pub returns : goal.returns
 returns c = λ n.
-    c.in_ok-_after.ensures.added n ∙ ap₂ (λ (a b : Bool). a || b) (ap (list_any (nat_eq n)) c.self.view_is) (has_one n c.args.number)
+    c.in_ok-add_word.ensures.added n ∙ ap₂ (λ (a b : Bool). a || b) (ap (list_any (nat_eq n)) c.self.view_is) (has_one n c.args.number)

@@ -1,11 +1,15 @@
--- Lists of predicates, each kept once.
-use Rattle.std.proofs.Common.{◌≡◌, ◌&&◌, ◌||◌, ◌⊎◌, ℕ, nat_eq, Bool, true, false, if◌then◌else◌, List, [], ◌∷◌, ◌++◌, map, refl, sym, ap, ap₂, ◌∙◌, inl, inr}
+-- Lists of predicates, each kept once, and rising lists.
+use Rattle.std.proofs.Common.{◌≡◌, ◌&&◌, ◌||◌, ◌⊎◌, ◌+◌, ℕ, nat_eq, Bool, true, false, if◌then◌else◌, List, [], ◌∷◌, ◌++◌, map, get_or, Less, refl, sym, ap, ap₂, ◌∙◌, inl, inr, arith}
 use Rattle.std.proofs.lemmas.Bool.{cases_Bool}
 use Rattle.std.specs.List.{list_any, AllByRecursion, IsDistinct}
+use Rattle.std.specs.List.Sorted.{IsSorted, IsStrictlySortedBy}
+use Rattle.std.specs.Ordering.{nat_cmp, is_lt}
 use Rattle.std.specs.Prelude.{IsPermutation, vec_items}
 use Rattle.std.specs.Global.{Vec}
 use Rattle.std.proofs.lemmas.List.{map_push}
+use Rattle.std.proofs.lemmas.Cmp.{nat_cmp_total}
 use Rattle.std.proofs.lemmas.List.Sorted.{list_any-IsPermutation}
+use Rattle.std.proofs.lemmas.Map.Keys.{apart_from_distinct, sorted_from_all_adjacent, IsDistinct-IsPermutation}
 use Rattle.std.specs.Cmp.Lexicographic.{pointwise}
 use Rattle.indexmap.specs.IndexSet.{insert_key}
 use Rattle.colour_meaning.proofs.Steps.{same_number}
@@ -56,6 +60,21 @@ same_list (x ∷ xs) [] h = cc
 same_list (x ∷ xs) (y ∷ ys) h =
     let both = and-parts (nat_eq x y) (pointwise nat_eq xs ys) h in
     ap₂ (λ (z : ℕ) (zs : List ℕ). z ∷ zs) (same_number x y both.0) (same_list xs ys both.1)
+
+-- numbers that differ rise once they are sorted
+same_turned : (a b : ℕ) → nat_eq a b ≡ nat_eq b a
+same_turned a b = grind arith
+
+next_above : (a b : ℕ) → is_lt (nat_cmp b a) ≡ false → nat_eq a b ≡ false → nat_cmp a b ≡ Less
+next_above a b up apart = grind arith
+
+rising_from_distinct : (xs : List ℕ) → IsSorted nat_cmp xs → IsDistinct nat_eq xs → IsStrictlySortedBy nat_cmp xs
+rising_from_distinct xs sorted distinct =
+    sorted_from_all_adjacent nat_cmp_total xs 0
+    (λ k inside. next_above (get_or xs k 0) (get_or xs (k + 1) 0) (sorted k 0 (omega arith) inside) (apart_from_distinct nat_eq xs k (k + 1) 0 distinct (omega arith) inside))
+
+pub rising_sorted : (xs ys : List ℕ) → IsDistinct nat_eq xs → IsPermutation xs ys → IsSorted nat_cmp ys → IsStrictlySortedBy nat_cmp ys
+rising_sorted xs ys distinct same sorted = rising_from_distinct ys sorted (IsDistinct-IsPermutation nat_eq same_turned xs ys same distinct)
 
 -- a list in another order
 both-permuted : (p q : ℕ) (xs ys : List ℕ) → IsPermutation xs ys → has_both p q xs ≡ has_both p q ys

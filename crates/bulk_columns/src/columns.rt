@@ -64,7 +64,7 @@ fn coloured_columns(
 
 /// The columns of a side for a bulk of items: the chosen ones, or, where the bulk's predicates are coloured,
 /// as many columns and hashes, with the colours as known columns. The predicates are ids of the book, whose
-/// texts are their IRIs.
+/// texts are their IRIs, and `hashes` is the number of hashes that the chosen columns have.
 pub fn columns_for(
     alloc: Global,
     placed: &[Placed],

@@ -1,7 +1,7 @@
 //! The predicates of each entity.
 
 ghost use Rattle.std.specs.Prelude.{◌≡◌, ◌&&◌, ◌||◌, [], ℕ, nat_eq, map, IfOk, OnOk};
-ghost use Rattle.std.specs.List.{list_any};
+ghost use Rattle.std.specs.List.{list_any, IsDistinct};
 ghost use Rattle.std.specs.List.Sorted.{IsStrictlySortedBy};
 ghost use Rattle.std.specs.Ordering.{nat_cmp};
 ghost use Rattle.std.specs.Map.{keys_of};
@@ -42,7 +42,8 @@ impl Preds {
     }
 
     pub(crate) fn as_slice(&self) -> &[u32]
-        ensures { result.now ≡ self.now }
+        ensures value { result.now ≡ self.now }
+        ensures once { IsDistinct nat_eq self.now }
     {
         self.preds.as_slice()
     }
@@ -51,9 +52,7 @@ impl Preds {
     fn note(&mut self, pred: u32) -> Result<(), AllocError>
         ensures { OnOk result ((q : ℕ) → has q self.new ≡ (has q self.old || nat_eq q pred)) }
     {
-        let Ok(_added) = self.preds.insert(pred) else {
-            return Err(AllocError);
-        };
+        self.preds.insert(pred)?;
         Ok(())
     }
 }
@@ -72,9 +71,7 @@ fn note(
     }
     let mut preds = Preds::new(alloc);
     preds.note(pred)?;
-    let Ok(_old) = entities.insert(entity, preds) else {
-        return Err(AllocError);
-    };
+    entities.insert(entity, preds)?;
     Ok(())
 }
 

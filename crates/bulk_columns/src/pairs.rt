@@ -35,8 +35,8 @@ pub(crate) fn pairs_of(
 {
     let mut pairs = Vec::new(alloc);
     for at in 0..colours.len() {
-        let pair = pair(alloc, colours[at], iris)?;
-        pairs.push(pair)?;
+        let both = pair(alloc, colours[at], iris)?;
+        pairs.push(both)?;
     }
     Ok(pairs)
 }

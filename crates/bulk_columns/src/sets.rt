@@ -3,7 +3,7 @@
 ghost use Rattle.std.specs.Prelude.{◌≡◌, [], nat_eq, map, vec_items, IsPermutation, IfOk, OnOk};
 ghost use Rattle.std.specs.Cmp.Lexicographic.{pointwise};
 ghost use Rattle.std.specs.List.{AllByRecursion, IsDistinct};
-ghost use Rattle.std.specs.List.Sorted.{IsSorted};
+ghost use Rattle.std.specs.List.Sorted.{IsStrictlySortedBy};
 ghost use Rattle.std.specs.Map.{values_of};
 ghost use Rattle.std.specs.Ordering.{nat_cmp};
 ghost use Rattle.indexmap.specs.IndexSet.{insert_key};
@@ -59,10 +59,11 @@ impl PredLists {
     }
 }
 
-/// The predicates by rising id, so that equal sets are equal lists.
+/// Distinct predicates by rising id, so that equal sets are equal lists.
 fn rising(alloc: Global, preds: &[u32]) -> Result<Vec<u32>, AllocError>
+    requires { IsDistinct nat_eq preds.now }
     ensures permutation { IfOk result (λ rising. IsPermutation preds.now rising.items) }
-    ensures sorted { IfOk result (λ rising. IsSorted nat_cmp rising.items) }
+    ensures rising { IfOk result (λ rising. IsStrictlySortedBy nat_cmp rising.items) }
 {
     let mut rising = Vec::from_slice(alloc, preds)?;
     rising.sort_unstable();
@@ -72,7 +73,7 @@ fn rising(alloc: Global, preds: &[u32]) -> Result<Vec<u32>, AllocError>
 /// The predicates of the entities by rising id, equal sets once.
 fn rising_sets(alloc: Global, entities: &BTreeMap<u32, Preds>) -> Result<PredLists, AllocError>
     ensures joined { IfOk result (λ sets. JoinAlike sets (values_of entities.now.entries)) }
-    ensures sorted { IfOk result (AllByRecursion (IsSorted nat_cmp)) }
+    ensures rising { IfOk result (AllByRecursion (IsStrictlySortedBy nat_cmp)) }
 {
     let mut sets = PredLists::new(alloc);
     for (_entity, preds) in entities {
@@ -98,7 +99,7 @@ pub(crate) fn distinct_sets(
     entities: &BTreeMap<u32, Preds>,
 ) -> Result<Vec<EntityPreds>, AllocError>
     ensures joined { IfOk result (λ list. JoinAlike (map preds_of list.items) (values_of entities.now.entries)) }
-    ensures sorted { IfOk result (λ list. AllByRecursion (IsSorted nat_cmp) (map preds_of list.items)) }
+    ensures rising { IfOk result (λ list. AllByRecursion (IsStrictlySortedBy nat_cmp) (map preds_of list.items)) }
     ensures once { IfOk result (λ list. IsDistinct (pointwise nat_eq) (map preds_of list.items)) }
 {
     let sets = rising_sets(alloc, entities)?;

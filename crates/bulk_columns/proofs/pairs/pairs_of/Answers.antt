@@ -12,4 +12,4 @@ pair-requires-clause-high c = let within : c.loop-at.at < length c.args.colours.
 pub loop-at-preserved : goal.loop-at-preserved
 loop-at-preserved c =
     let within : c.loop-at.at < length c.args.colours.now = omega arith in
-    ap (map known_of) c.in_ok-push.ensures.items ∙ pairs-more c.args.iris.now c.args.colours.now c.loop-at.at _ c.loop-at.pairs.items c.in_ok-pair.pair within c.loop-at.invariant c.in_ok-pair.ensures
+    ap (map known_of) c.in_ok-push.ensures.items ∙ pairs-more c.args.iris.now c.args.colours.now c.loop-at.at _ c.loop-at.pairs.items c.in_ok-both.both within c.loop-at.invariant c.in_ok-both.ensures

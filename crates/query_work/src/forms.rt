@@ -37,19 +37,16 @@ fn is_plain(modifiers: &Modifiers) -> bool
         && modifiers.most.is_none()
 }
 
-/// The pattern of a query that is answered: one of one pattern alone, where nothing is asked but which variables are shown.
+/// The pattern of a query that is answered: one of one pattern alone, where nothing is asked but which
+/// variables are shown.
 pub(crate) fn asked_pattern(query: &Query) -> Option<&Pattern>
     ensures answered { MatchOption result (is_answered query.now ≡ false) (λ p. is_answered query.now ≡ true) }
     ensures pattern { IfSome result (λ p. only_pattern query.now.tree ≡ Some p.now) }
 {
-    match only_pattern(&query.tree) {
-        Some(pattern) => {
-            if is_plain(&query.modifiers) {
-                Some(pattern)
-            } else {
-                None
-            }
-        }
-        None => None,
+    let pattern = only_pattern(&query.tree)?;
+    if is_plain(&query.modifiers) {
+        Some(pattern)
+    } else {
+        None
     }
 }

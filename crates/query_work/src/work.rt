@@ -81,10 +81,11 @@ fn read_asked(alloc: Global, text: &[u8]) -> Result<Query, Status>
     }
 }
 
-/// The text of the answer to the query of a text over what is present after the changes, or the status that they ask for: a
-/// refusal of the text goes before the limits on triples and terms. Answered is a query of one pattern alone, where nothing is
-/// asked but which variables are shown. Every other one, with no pattern or several, with OPTIONAL, UNION or FILTER, or with
-/// DISTINCT, ORDER BY, LIMIT or an OFFSET above 0, isn't answered yet.
+/// The text of the answer to the query of a text over what is present after the changes, or the status that
+/// they ask for: a refusal of the text goes before the limits on triples and terms. Answered is a query of one
+/// pattern alone, where nothing is asked but which variables are shown. Every other one, with no pattern or
+/// several, with OPTIONAL, UNION or FILTER, or with DISTINCT, ORDER BY, LIMIT or an OFFSET above 0, isn't
+/// answered yet.
 pub fn query_text(alloc: Global, changes: Vec<Change>, text: &[u8]) -> Result<Vec<u8>, Status>
     ensures ok { IfOk result (λ answer. (work : Work) × AnswerAsks changes.items text.now (Ok work) × FitsText work answer.items) }
     ensures err { IfErr result (λ status. RefusedAs status (λ s. AnswerAsks changes.items text.now (Err s))) }

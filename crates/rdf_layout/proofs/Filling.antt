@@ -140,7 +140,7 @@ put-added start s seen t h form new room = record {
     once = once-more seen t ∙ ap (λ (b : Bool). if b then each_once seen else each_once seen ++ t ∷ []) (seen-same start s seen t h ∙ new)
 
 -- a triple that was put in
-pub put-step : (start s : StoreOf) (seen : List RdfTriple) (t : RdfTriple) (p : Put) → ArePutInTurn start seen s → IsTriple t → p ≡ put_of (is_stored s t) → (p ≡ Added → HasRoom s t) → ArePutInTurn start (seen ++ t ∷ []) (stored_in s t)
+put-step : (start s : StoreOf) (seen : List RdfTriple) (t : RdfTriple) (p : Put) → ArePutInTurn start seen s → IsTriple t → p ≡ put_of (is_stored s t) → (p ≡ Added → HasRoom s t) → ArePutInTurn start (seen ++ t ∷ []) (stored_in s t)
 put-step start s seen t p h form answer room = by (is_stored s t) refl answer
   where
     by : (b : Bool) → is_stored s t ≡ b → p ≡ put_of b → ArePutInTurn start (seen ++ t ∷ []) (stored_in s t)
@@ -154,7 +154,7 @@ refuses_none start s seen t p h answer room = by (is_stored s t) refl answer
     by true e a = there-refuses_none start s seen t h e
     by false e a = added-refuses_none start s seen t h e (room a)
 
-pub refusal-step : (start s : StoreOf) (seen later : List RdfTriple) (t : RdfTriple) (p : Put) → ArePutInTurn start seen s → p ≡ put_of (is_stored s t) → (p ≡ Added → HasRoom s t)
+refusal-step : (start s : StoreOf) (seen later : List RdfTriple) (t : RdfTriple) (p : Put) → ArePutInTurn start seen s → p ≡ put_of (is_stored s t) → (p ≡ Added → HasRoom s t)
     → refusal_from seen (t ∷ later) ≡ refusal_from (seen ++ t ∷ []) later
 refusal-step start s seen later t p h answer room = ap (λ (o : Option StoreRefusal). or_later o (refusal_from (seen ++ t ∷ []) later)) (refuses_none start s seen t p h answer room)
 
@@ -190,7 +190,7 @@ refused-behind start s seen t Lists h n r = absurd (by r.3)
         omega arith
 refused-behind start s seen t NoMemory h n r = absurd (n refl)
 
-pub refused-step : (start s : StoreOf) (seen later : List RdfTriple) (t : RdfTriple) (e : StoreRefusal) → ArePutInTurn start seen s → Refuses e s t → e ≢ NoMemory → refusal_from seen (t ∷ later) ≡ Some e
+refused-step : (start s : StoreOf) (seen later : List RdfTriple) (t : RdfTriple) (e : StoreRefusal) → ArePutInTurn start seen s → Refuses e s t → e ≢ NoMemory → refusal_from seen (t ∷ later) ≡ Some e
 refused-step start s seen later t e h r n = ap (λ (o : Option StoreRefusal). or_later o (refusal_from (seen ++ t ∷ []) later)) (refused-behind start s seen t e h n r)
 
 -- a turn of the loop

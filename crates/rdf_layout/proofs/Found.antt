@@ -14,8 +14,6 @@ use Rattle.layout_meaning.proofs.Candidates.{AreCandidates, candidates, first-be
 use Rattle.layout_meaning.proofs.Changes.{next-placed}
 use Rattle.value_lists.specs.declared.lists.Put.TheVariants.{Added}
 use Rattle.value_lists.specs.Answers.{put_of}
-use Rattle.term_book.specs.declared.refusal.BookRefusal.{BookRefusal}
-use Rattle.term_book.specs.declared.refusal.BookRefusal.TheVariants as book
 use Rattle.triple_ids.specs.Noted.{HaveIds}
 use Rattle.triple_sides.specs.Items.{item_of}
 use Rattle.triple_sides.specs.declared.sides.IdTriple.{IdTriple}
@@ -40,8 +38,8 @@ use Rattle.columns_meaning.specs.Layouts.{ChoiceOf}
 use Rattle.shredder.specs.declared.bulk.Placed.{Placed}
 use Rattle.shredder.specs.Items as placed
 use Rattle.rdf_layout.specs.declared.refusal.StoreRefusal.{StoreRefusal}
-use Rattle.rdf_layout.specs.declared.refusal.StoreRefusal.TheVariants.{Triples, NoMemory}
-use Rattle.rdf_layout.specs.Refused.{Refuses, HasRoom, of_book}
+use Rattle.rdf_layout.specs.declared.refusal.StoreRefusal.TheVariants.{Triples, Terms, NoMemory}
+use Rattle.rdf_layout.specs.Refused.{Refuses, HasRoom}
 use Rattle.rdf_layout.specs.Bulk.{empty_sides, empty_store, ArePutInTurn, refusal_from}
 use Rattle.rdf_layout.specs.Gathered.{is_item, is_among, turned_placed, AreItemsOf, AreStored, with_found, HasSpace, Gathers}
 use Rattle.rdf_layout.proofs.Putting.{count-is, noted-item, noted-held, refused-book, is-full}
@@ -115,12 +113,12 @@ pub refused-full : (t : RdfTriple) (terms new : List RdfTerm) (xs : List Item) (
     → (s : StoreOf) → AreItemsOf s terms xs → Refuses Triples s t
 refused-full t terms new xs ids x form e k is free full s h = (sym (found-there s t terms new xs ids x h form e k is) ∙ free, is-full s (length xs) full (count-found s terms xs h))
 
-pub refused-terms : (t : RdfTriple) (terms : List RdfTerm) (xs : List Item) (refusal : BookRefusal) (full : Bool) → length terms ≤ 4000000 → (refusal ≡ book.Full → 4000000 < length (with_terms terms t)) → full ≡ nat_le 1000000 (length xs)
-    → (s : StoreOf) → AreItemsOf s terms xs → Refuses (of_book refusal full) s t
-refused-terms t terms xs refusal full few passes is s h =
+pub refused-terms : (t : RdfTriple) (terms : List RdfTerm) (xs : List Item) (e : StoreRefusal) (full : Bool) → length terms ≤ 4000000 → (e ≢ NoMemory → (e ≡ (if full then Triples else Terms)) × (4000000 < length (with_terms terms t)))
+    → full ≡ nat_le 1000000 (length xs) → (s : StoreOf) → AreItemsOf s terms xs → Refuses e s t
+refused-terms t terms xs e full few passes is s h =
     let n : length terms ≡ length s.terms = ap (λ (l : List RdfTerm). length l) h.same_terms in
     let m : length (with_terms terms t) ≡ length (with_terms s.terms t) = ap (λ (l : List RdfTerm). length (with_terms l t)) h.same_terms in
-    refused-book s t refusal full (length xs) h.good (omega arith) (λ e. let p = passes e in omega arith) is (count-found s terms xs h)
+    refused-book s t e full (length xs) h.good (omega arith) (λ q. let p = passes q in let l = p.1 in (p.0, omega arith)) is (count-found s terms xs h)
 
 -- ---- the terms grow
 

@@ -1,5 +1,5 @@
 -- Triples that are put into a dictionary and two sides.
-use Rattle.std.proofs.Common.{◌≡◌, inl, inr, ℕ, ◌+◌, ◌-◌, ◌≤◌, ◌<◌, Bool, true, false, List, [], ◌∷◌, map, length, Contains, refl, sym, ap, ◌∙◌, arith, subst}
+use Rattle.std.proofs.Common.{◌≡◌, ◌≢◌, inl, inr, ℕ, ◌+◌, ◌-◌, ◌≤◌, ◌<◌, Bool, true, false, if◌then◌else◌, List, [], ◌∷◌, map, length, Contains, refl, sym, ap, ◌∙◌, arith, subst}
 use Rattle.std.specs.List.{IsDistinct}
 use Rattle.std.proofs.lemmas.Map.Views.{Contains-from_any}
 use Rattle.bags.specs.Bag.{total}
@@ -24,6 +24,8 @@ use Rattle.term_book.specs.declared.refusal.BookRefusal.TheVariants as book
 use Rattle.primary_rows.specs.declared.side.SideRefusal.{SideRefusal}
 use Rattle.primary_rows.specs.declared.side.SideRefusal.TheVariants as of
 use Rattle.store_laws.proofs.Same.{known-term, stored-fits}
+use Rattle.rdf_layout.specs.declared.refusal.StoreRefusal.{StoreRefusal}
+use Rattle.rdf_layout.specs.declared.refusal.StoreRefusal.TheVariants.{Triples, Terms, Lists, NoMemory}
 use Rattle.rdf_layout.specs.Refused.{Refuses, PassesLists, of_book, of_side}
 use Rattle.std.proofs.Common.{nat_le}
 use Rattle.triple_ids.specs.Noted.{HaveIds, LacksTerm}
@@ -76,11 +78,28 @@ stored-placed s t terms ids new h form e k n =
     (λ i. store_of (e i) (n i)) ∙ ap (λ (x : Item). store_of (with_terms s.terms t) (both_placed (sides_of s) t.p.text x)) (noted-item s t terms ids h form e k)
 
 -- the refusals
-pub refused-book : (s : StoreOf) (t : RdfTriple) (refusal : BookRefusal) (full : Bool) (count : ℕ) → IsStore s → length s.terms ≤ 4000000 → (refusal ≡ book.Full → 4000000 < length (with_terms s.terms t))
-    → full ≡ nat_le 1000000 count → count ≡ length (stored_triples s) → Refuses (of_book refusal full) s t
-refused-book s t book.NoMemory full count h few passes f c = tt
-refused-book s t book.Full true count h few passes f c = (passes-new s t h few (passes refl), (let k : 1000000 ≤ count = grind arith in omega arith))
-refused-book s t book.Full false count h few passes f c = (passes-new s t h few (passes refl), (let k : count < 1000000 = grind arith in omega arith), passes refl)
+pub noted-passes : (t : RdfTriple) (terms : List RdfTerm) (refusal : BookRefusal) (full : Bool) → (refusal ≡ book.Full → 4000000 < length (with_terms terms t)) → of_book refusal full ≢ NoMemory
+    → (of_book refusal full ≡ (if full then Triples else Terms)) × (4000000 < length (with_terms terms t))
+noted-passes t terms book.NoMemory full passes n = absurd (n refl)
+noted-passes t terms book.Full full passes n = (refl, passes refl)
+
+book-refuses : (s : StoreOf) (t : RdfTriple) (full : Bool) (count : ℕ) → IsStore s → length s.terms ≤ 4000000 → 4000000 < length (with_terms s.terms t) → full ≡ nat_le 1000000 count → count ≡ length (stored_triples s)
+    → Refuses (if full then Triples else Terms) s t
+book-refuses s t true count h few l f c = (passes-new s t h few l, (let k : 1000000 ≤ count = grind arith in omega arith))
+book-refuses s t false count h few l f c = (passes-new s t h few l, (let k : count < 1000000 = grind arith in omega arith), l)
+
+pub refused-book : (s : StoreOf) (t : RdfTriple) (e : StoreRefusal) (full : Bool) (count : ℕ) → IsStore s → length s.terms ≤ 4000000 → (e ≢ NoMemory → (e ≡ (if full then Triples else Terms)) × (4000000 < length (with_terms s.terms t)))
+    → full ≡ nat_le 1000000 count → count ≡ length (stored_triples s) → Refuses e s t
+refused-book s t e full count h few passes f c = by e passes
+  where
+    on : (r : StoreRefusal) → (r ≡ (if full then Triples else Terms)) × (4000000 < length (with_terms s.terms t)) → Refuses r s t
+    on r p = subst (λ (q : StoreRefusal). Refuses q s t) (sym p.0) (book-refuses s t full count h few p.1 f c)
+
+    by : (r : StoreRefusal) → (r ≢ NoMemory → (r ≡ (if full then Triples else Terms)) × (4000000 < length (with_terms s.terms t))) → Refuses r s t
+    by NoMemory p = tt
+    by Triples p = on Triples (p (λ m. cc))
+    by Terms p = on Terms (p (λ m. cc))
+    by Lists p = on Lists (p (λ m. cc))
 
 pub refused-side : (s : StoreOf) (t : RdfTriple) (refusal : SideRefusal) (count : ℕ) → is_stored s t ≡ false → count < 1000000 → count ≡ length (stored_triples s) → length (with_terms s.terms t) ≤ 4000000
     → (refusal ≡ of.ListsFull → PassesLists s t) → Refuses (of_side refusal) s t

@@ -11,12 +11,13 @@ ghost use Rattle.rdf_layout.specs.Bulk.{refusal_from};
 ghost use Rattle.rdf_layout.specs.Gathered.{AreItemsOf, Gathers, HasSpace, with_found};
 
 use crate::item_set::ItemSet;
-use crate::refusal::{MOST_TRIPLES, StoreRefusal, of_book};
+use crate::noted::noted;
+use crate::refusal::{MOST_TRIPLES, StoreRefusal};
 use rdf_terms::Triple;
 use shredder::Placed;
 use std::alloc::Global;
 use term_book::TermBook;
-use triple_ids::{has_forms, note};
+use triple_ids::has_forms;
 use triple_sides::IdTriple;
 
 /// The item of a triple on the direct side.
@@ -47,10 +48,7 @@ fn gather(
 {
     has_forms(t);
     let full = found.count() >= MOST_TRIPLES;
-    let ids = match note(book, alloc, t) {
-        Ok(ids) => ids,
-        Err(refusal) => return Err(of_book(refusal, full)),
-    };
+    let ids = noted(book, alloc, t, full)?;
     let item = placed_of(ids);
     if found.has(item) {
         return Ok(());
@@ -77,10 +75,7 @@ pub(crate) fn gather_all(
     ensures few { length book.new ≤ 4000000 }
 {
     for t in triples {
-        match gather(book, found, alloc, t) {
-            Ok(()) => {}
-            Err(refusal) => return Err(refusal),
-        }
+        gather(book, found, alloc, t)?;
     }
     Ok(())
 }

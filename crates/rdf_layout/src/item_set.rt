@@ -46,9 +46,7 @@ impl ItemSet {
         requires { is_among self.old (item_of item) ≡ false }
         ensures { OnOk result (self.new ≡ self.old ++ item_of item ∷ []) }
     {
-        let Ok(_added) = self.placed.insert(item) else {
-            return Err(AllocError);
-        };
+        self.placed.insert(item)?;
         Ok(())
     }
 

@@ -5,6 +5,7 @@ mod bulk;
 mod facts;
 mod gathering;
 mod item_set;
+mod noted;
 mod refusal;
 mod stats;
 mod steps;
@@ -12,7 +13,7 @@ mod store;
 
 pub use layout_choice::{ColourWay, LayoutChoice};
 pub use layout_tables::Tables;
-pub use pred_columns::{ConstCount, Counts, LayoutFacts, QueryIds};
+pub use pred_columns::{ConstCount, Counts, IdPair, LayoutFacts, QueryIds, Spilled};
 pub use primary_rows::Took;
 pub use refusal::StoreRefusal;
 pub use stats::{SideStats, Stats};

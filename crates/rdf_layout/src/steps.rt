@@ -8,12 +8,13 @@ ghost use Rattle.standing_meaning.specs.Stored.{IsStore};
 ghost use Rattle.standing_meaning.specs.Changes.{store_of, is_stored, stored_in, taken_out, IsRefused};
 ghost use Rattle.rdf_layout.specs.Refused.{Refuses, HasRoom};
 
-use crate::refusal::{MOST_TRIPLES, StoreRefusal, of_book};
+use crate::noted::noted;
+use crate::refusal::{MOST_TRIPLES, StoreRefusal};
 use primary_rows::Took;
 use rdf_terms::{Text, Triple};
 use std::alloc::Global;
 use term_book::TermBook;
-use triple_ids::{find, has_forms, note};
+use triple_ids::{find, has_forms};
 use triple_sides::TripleSides;
 use value_lists::Put;
 
@@ -45,10 +46,7 @@ pub(crate) fn put(
 {
     has_forms(t);
     let full = sides.count() >= MOST_TRIPLES;
-    let ids = match note(book, alloc, t) {
-        Ok(ids) => ids,
-        Err(refusal) => return Err(of_book(refusal, full)),
-    };
+    let ids = noted(book, alloc, t, full)?;
     if full {
         return if sides.holds(ids) {
             Ok(Put::There)
@@ -56,10 +54,7 @@ pub(crate) fn put(
             Err(StoreRefusal::Triples)
         };
     }
-    match sides.insert(alloc, ids, predicate_text(t)) {
-        Ok(put) => Ok(put),
-        Err(refusal) => Err(StoreRefusal::from(refusal)),
-    }
+    Ok(sides.insert(alloc, ids, predicate_text(t))?)
 }
 
 /// Takes a triple out of two sides. It takes no memory.

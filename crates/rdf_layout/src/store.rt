@@ -75,9 +75,9 @@ impl Store {
     /// Each side has the columns that were chosen, with the colours of the triples where they are to be
     /// coloured, and places its items at once: entity by entity, with list ids from -1 downwards by rising
     /// entity, row number and column. Where the triples are coloured, an entity whose predicates all have a
-    /// colour has no row but its first. The load is refused exactly where, at the first triple that is refused, 1,000,000
-    /// triples are stored and this one is new, or else where its terms would pass 4,000,000. The number of
-    /// pieces changes nothing.
+    /// colour has no row but its first. The load is refused exactly where, at the first triple that is
+    /// refused, 1,000,000 triples are stored and this one is new, or else where its terms would pass
+    /// 4,000,000. The number of pieces changes nothing.
     pub fn load(
         alloc: Global,
         triples: &[Triple],

@@ -9,4 +9,4 @@ mod refusal;
 mod text;
 mod work;
 
-pub use work::{stats_of, stats_text};
+pub use work::stats_text;

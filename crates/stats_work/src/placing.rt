@@ -53,15 +53,9 @@ pub(crate) fn place(
     ensures within { OnOk result (passed_limit (map Add bulk.now ++ later.now) ≡ None) }
     ensures passed { IfErr result (λ e. Refuses e (passed_limit (map Add bulk.now ++ later.now))) }
 {
-    let mut store = match load_bulk(alloc, choice, pieces, bulk) {
-        Ok(store) => store,
-        Err(refusal) => return Err(refusal),
-    };
+    let mut store = load_bulk(alloc, choice, pieces, bulk)?;
     for change in later {
-        match make(&mut store, alloc, change) {
-            Ok(()) => {}
-            Err(refusal) => return Err(refusal),
-        }
+        make(&mut store, alloc, change)?;
     }
     Ok(store)
 }

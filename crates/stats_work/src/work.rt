@@ -20,11 +20,11 @@ use rdf_layout::Stats;
 use run_meaning::Options;
 use std::alloc::Global;
 
-/// What is counted of the tables that hold the triples present after the changes: the bulk is loaded at once
-/// and the later changes are made one by one, under the layout that the options ask for; the lines are those of
-/// the colouring file, if they name one. The terms are those that additions needed. It is refused exactly where
-/// a change passes a limit, by the first that does.
-pub fn stats_of(
+// What is counted of the tables that hold the triples present after the changes: the bulk is loaded at once
+// and the later changes are made one by one, under the layout that the options ask for; the lines are those of
+// the colouring file, if they name one. The terms are those that additions needed. It is refused exactly where
+// a change passes a limit, by the first that does.
+fn stats_of(
     alloc: Global,
     options: &Options,
     lines: Vec<ColourLine>,
@@ -37,18 +37,10 @@ pub fn stats_of(
     ensures within { OnOk result (passed_limit changes.items ≡ None) }
     ensures passed { IfErr result (λ e. Refuses e (passed_limit changes.items)) }
 {
-    let choice = match choice_of(alloc, options, lines) {
-        Ok(choice) => choice,
-        Err(refusal) => return Err(refusal),
-    };
-    let cut = match cut_at_deletion(alloc, changes) {
-        Ok(cut) => cut,
-        Err(refusal) => return Err(refusal),
-    };
-    match place(alloc, &choice, options.pieces, &cut.bulk, &cut.later) {
-        Ok(store) => Ok(store.stats()),
-        Err(refusal) => Err(refusal),
-    }
+    let choice = choice_of(alloc, options, lines)?;
+    let cut = cut_at_deletion(alloc, changes)?;
+    let store = place(alloc, &choice, options.pieces, &cut.bulk, &cut.later)?;
+    Ok(store.stats())
 }
 
 /// The text of these statistics, of four lines.
@@ -65,8 +57,6 @@ pub fn stats_text(
     ensures within { OnOk result (passed_limit changes.items ≡ None) }
     ensures passed { IfErr result (λ e. Refuses e (passed_limit changes.items)) }
 {
-    match stats_of(alloc, options, lines, changes) {
-        Ok(stats) => Ok(text_of(alloc, &stats)?),
-        Err(refusal) => Err(refusal),
-    }
+    let stats = stats_of(alloc, options, lines, changes)?;
+    Ok(text_of(alloc, &stats)?)
 }

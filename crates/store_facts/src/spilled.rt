@@ -1,6 +1,6 @@
 //! Which of given predicates are spilled on a side.
 
-ghost use Rattle.std.specs.Prelude.{◌≡◌, ◌∷◌, ◌++◌, [], if◌then◌else◌, not, nat_eq, Some, None, IfOk, OnOk};
+ghost use Rattle.std.specs.Prelude.{◌≡◌, ◌∷◌, ◌++◌, [], if◌then◌else◌, nat_eq, Some, None, IfOk, OnOk};
 ghost use Rattle.std.specs.List.{IsDistinct, list_any};
 ghost use Rattle.indexmap.specs.IndexSet.{insert_key};
 ghost use Rattle.rdf_meaning.specs.Terms.{same_term};
@@ -25,14 +25,6 @@ fn spilled_id(book: &TermBook, side: &Side, t: &Term) -> Option<u32>
     if side.spilled(id) { Some(id) } else { None }
 }
 
-/// Notes an id, and tells whether it is new.
-fn note(ids: &mut IndexSet<u32>, id: u32) -> Result<bool, AllocError>
-    ensures ids { OnOk result (ids.new.keys ≡ insert_key nat_eq ids.old.keys id) }
-    ensures new { IfOk result (λ new. new ≡ not (list_any (nat_eq id) ids.old.keys)) }
-{
-    Ok(ids.insert(id)?)
-}
-
 /// Puts a term last, unless its id is there.
 fn push_once(
     kept: &mut Vec<Term>,
@@ -44,7 +36,7 @@ fn push_once(
     ensures ids { OnOk result (ids.new.keys ≡ insert_key nat_eq ids.old.keys id) }
     ensures kept { OnOk result (kept.new.items ≡ (if list_any (nat_eq id) ids.old.keys then kept.old.items else kept.old.items ++ t.now ∷ [])) }
 {
-    if note(ids, id)? {
+    if ids.insert(id)? {
         kept.push(t.copy(alloc)?)?;
     }
     Ok(())

@@ -1,4 +1,5 @@
 use Rattle.std.proofs.Common.{◌≡◌, None, List, map, ◌∙◌, subst}
+use Rattle.std.proofs.lemmas.Result.{err_from_is_err_and}
 use Rattle.line_meaning.specs.declared.change.Change.{Change}
 use Rattle.run_meaning.specs.Limits.{passed_limit}
 use Rattle.colouring_lines.specs.Colours.{colour_of}
@@ -8,19 +9,20 @@ use Rattle.stats_work.proofs.work.stats_of.Goals as goal
 
 pub place-requires : goal.place-requires
 place-requires c =
-    cut-few c.args.changes.items c.deref-2.result.now c.deref.result.now (c.deref.ensures.value ∙ c.in-Ok-cut_at_deletion.ensures.bulk) (c.deref-2.ensures.value ∙ c.in-Ok-cut_at_deletion.ensures.later) c.requires.few
+    cut-few c.args.changes.items c.deref-2.result.now c.deref.result.now (c.deref.ensures.value ∙ c.in_ok-cut.ensures.bulk) (c.deref-2.ensures.value ∙ c.in_ok-cut.ensures.later) c.requires.few
 
-pub returns-in-Ok-place-clause-ok : goal.returns-in-Ok-place-clause-ok
-returns-in-Ok-place-clause-ok c =
-    stats-fit c.args.options.now (map colour_of c.args.lines.items) c.in-Ok.choice c.args.changes.items c.deref-2.result.now c.deref.result.now c.in-Ok-place.store c.stats.result c.in-Ok.ensures.ok c.in-Ok-place.ensures.layout
-    (c.deref.ensures.value ∙ c.in-Ok-cut_at_deletion.ensures.bulk) (c.deref-2.ensures.value ∙ c.in-Ok-cut_at_deletion.ensures.later) c.in-Ok-place.ensures.placed c.in-Ok-place.ensures.triples c.stats.ensures
+pub returns-clause-ok : goal.returns-clause-ok
+returns-clause-ok c =
+    stats-fit c.args.options.now (map colour_of c.args.lines.items) c.in_ok-choice.choice c.args.changes.items c.deref-2.result.now c.deref.result.now c.in_ok-store.store c.stats.result c.in_ok-choice.ensures.ok c.in_ok-store.ensures.layout
+    (c.deref.ensures.value ∙ c.in_ok-cut.ensures.bulk) (c.deref-2.ensures.value ∙ c.in_ok-cut.ensures.later) c.in_ok-store.ensures.placed c.in_ok-store.ensures.triples c.stats.ensures
 
-pub returns-in-Ok-place-clause-within : goal.returns-in-Ok-place-clause-within
-returns-in-Ok-place-clause-within c =
+pub returns-clause-within : goal.returns-clause-within
+returns-clause-within c =
     subst (λ (cs : List Change). passed_limit cs ≡ None)
-    (whole c.args.changes.items c.deref-2.result.now c.deref.result.now (c.deref.ensures.value ∙ c.in-Ok-cut_at_deletion.ensures.bulk) (c.deref-2.ensures.value ∙ c.in-Ok-cut_at_deletion.ensures.later)) c.in-Ok-place.ensures.within
+    (whole c.args.changes.items c.deref-2.result.now c.deref.result.now (c.deref.ensures.value ∙ c.in_ok-cut.ensures.bulk) (c.deref-2.ensures.value ∙ c.in_ok-cut.ensures.later)) c.in_ok-store.ensures.within
 
-pub returns-clause-passed : goal.returns-clause-passed
-returns-clause-passed c =
-    subst (λ (cs : List Change). Refuses c.in-Err-place.refusal (passed_limit cs))
-    (whole c.args.changes.items c.deref-2.result.now c.deref.result.now (c.deref.ensures.value ∙ c.in-Ok-cut_at_deletion.ensures.bulk) (c.deref-2.ensures.value ∙ c.in-Ok-cut_at_deletion.ensures.later)) c.in-Err-place.ensures.passed
+pub returns-in_err-store-clause-passed : goal.returns-in_err-store-clause-passed
+returns-in_err-store-clause-passed c =
+    let p = err_from_is_err_and c.from_residual-in_err-store.result c.from_residual-in_err-store.ensures.1 in
+    rw (p.1, p.2) (subst (λ (cs : List Change). Refuses c.in_err-store.field-0.0 (passed_limit cs))
+    (whole c.args.changes.items c.deref-2.result.now c.deref.result.now (c.deref.ensures.value ∙ c.in_ok-cut.ensures.bulk) (c.deref-2.ensures.value ∙ c.in_ok-cut.ensures.later)) c.in_err-store.ensures.passed)

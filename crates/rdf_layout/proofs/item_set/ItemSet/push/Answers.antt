@@ -7,5 +7,5 @@ use Rattle.rdf_layout.proofs.item_set.ItemSet.push.Goals as goal
 
 pub returns : goal.returns
 returns c =
-    keys-pushed c.args.item c.self.inside.placed.keys c.insert.new.self.keys (ap (λ (xs : List Item). is_among xs (item_of c.args.item)) c.self.view_is ∙ c.requires) c.in-Ok.ensures.keys
+    keys-pushed c.args.item c.self.inside.placed.keys c.insert.new.self.keys (ap (λ (xs : List Item). is_among xs (item_of c.args.item)) c.self.view_is ∙ c.requires) c.in_ok-insert.ensures.keys
     ∙ ap (λ (xs : List Item). xs ++ item_of c.args.item ∷ []) c.self.view_is

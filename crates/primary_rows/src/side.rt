@@ -240,7 +240,7 @@ impl Side {
     }
 
     /// How many entities have rows.
-    pub fn entities(&self) -> u64
+    pub fn entity_count(&self) -> u64
         ensures { result ≡ length self.now.state.entities }
     {
         self.table.entity_count()

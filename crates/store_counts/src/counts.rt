@@ -61,8 +61,8 @@ pub fn counts_of(
     let constants = counts_of_each(alloc, book, sides, terms)?;
     Ok(Counts {
         triples: sides.count(),
-        subjects: sides.direct().entities(),
-        objects: sides.reverse().entities(),
+        subjects: sides.direct().entity_count(),
+        objects: sides.reverse().entity_count(),
         constants,
     })
 }

@@ -1,6 +1,6 @@
 //! Both sides together.
 
-ghost use Rattle.std.specs.Prelude.{◌≡◌, ◌⊎◌, ◌≤◌, ◌+◌, ◌^◌, [], false, IfOk, OnOk, OnErr, Ok, Err};
+ghost use Rattle.std.specs.Prelude.{◌≡◌, ◌⊎◌, ◌≤◌, ◌+◌, ◌^◌, false, IfOk, OnOk, OnErr, Ok, Err};
 ghost use Rattle.bags.specs.Bag.{total};
 ghost use Rattle.layout_meaning.specs.Side.{is_held, items};
 ghost use Rattle.standing_meaning.specs.Sides.{both_placed, both_taken, AreSides, AreAsBefore};
@@ -8,13 +8,12 @@ ghost use Rattle.value_lists.specs.Answers.{put_of};
 ghost use Rattle.primary_rows.specs.Answers.{took_of};
 ghost use Rattle.triple_sides.specs.Items.{item_of};
 
-use pred_columns::Columns;
 use primary_rows::{Side, SideRefusal, Took};
 use rdf_meaning::Text;
 use rdf_terms::TermId;
 use std::alloc::Global;
 use std::marker::Model;
-use value_lists::{Lists, Put};
+use value_lists::Put;
 
 /// A triple by the ids of its subject, predicate and object.
 #[derive(Clone, Copy, Debug, PartialEq, Eq)]
@@ -42,18 +41,6 @@ impl Model for TripleSides {
 }
 
 impl TripleSides {
-    /// Sides without rows, whose lists have the ids from -1 on.
-    pub fn new(alloc: Global, direct: Columns, reverse: Columns) -> TripleSides
-        ensures direct { result.direct ≡ record { columns = direct; state = record { entities = []; lists = []; next = 0 } } }
-        ensures reverse { result.reverse ≡ record { columns = reverse; state = record { entities = []; lists = []; next = 0 } } }
-        ensures sides { AreSides result }
-    {
-        TripleSides {
-            direct: Side::new(alloc, direct, Lists::starting(alloc, -1)),
-            reverse: Side::new(alloc, reverse, Lists::starting(alloc, -1)),
-        }
-    }
-
     /// Both sides as they are; the reverse side holds the items of the direct side, turned.
     pub fn of(direct: Side, reverse: Side) -> TripleSides
         requires { AreSides (record { direct = direct; reverse = reverse }) }

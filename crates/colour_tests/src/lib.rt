@@ -4,6 +4,8 @@
 #[cfg(test)]
 mod choices;
 #[cfg(test)]
+mod data;
+#[cfg(test)]
 mod rows;
 #[cfg(test)]
 mod steps;

@@ -1,5 +1,6 @@
 //! Rows of coloured tables, cell by cell.
 
+use crate::data::{ONE_COLUMN, THREE_PREDICATES, TWO_PREDICATES};
 use crate::steps::store_of;
 use rdf_layout::Store;
 use rel_cells::{TableSet, write_cell};
@@ -38,10 +39,6 @@ fn table_text(alloc: Global, store: &Store, t: usize) -> Result<Vec<u8>, AllocEr
     rows_text(alloc, &tables, t)
 }
 
-const TWO: &str = "<u:a> <u:p> \"1\" .\n<u:a> <u:q> \"2\" .\n";
-
-const THREE: &str = "<u:a> <u:p> \"1\" .\n<u:a> <u:q> \"2\" .\n<u:a> <u:r> \"3\" .\n";
-
 // The rare predicate has more neighbours, so it takes the first column; the others follow by their ids.
 const STAR: &str =
     "<u:a> <u:p> \"1\" .\n<u:a> <u:r> \"2\" .\n<u:b> <u:q> \"3\" .\n<u:b> <u:r> \"4\" .\n";
@@ -49,34 +46,40 @@ const STAR: &str =
 // The direct rows of stores, by their bulks, later changes, direct columns and ways of colouring.
 const ROWS: [(&str, &str, u32, &str, &str); 8] = [
     (
-        TWO,
+        TWO_PREDICATES,
         "",
         2,
-        "D <u:p> 1\nD <u:q> 1\n",
+        ONE_COLUMN,
         " 1 0 2 3 . .\n 1 1 4 5 . .\n",
     ),
     // The row that became empty goes, and the later one closes up.
     (
-        TWO,
+        TWO_PREDICATES,
         "D <u:a> <u:p> \"1\" .\n",
         2,
-        "D <u:p> 1\nD <u:q> 1\n",
+        ONE_COLUMN,
         " 1 0 4 5 . .\n",
     ),
     (
-        TWO,
+        TWO_PREDICATES,
         "",
         2,
         "D <u:q> 1\nD <u:p> 2\nR <u:p> 1\n",
         " 1 0 4 5 2 3\n",
     ),
-    (TWO, "", 2, "greedy", " 1 0 2 3 4 5\n"),
+    (TWO_PREDICATES, "", 2, "greedy", " 1 0 2 3 4 5\n"),
     // The third predicate has no colour, and goes by its hashes.
-    (THREE, "", 2, "greedy", " 1 0 2 3 4 5\n 1 1 6 7 . .\n"),
-    (THREE, "", 3, "greedy", " 1 0 2 3 4 5 6 7\n"),
+    (
+        THREE_PREDICATES,
+        "",
+        2,
+        "greedy",
+        " 1 0 2 3 4 5\n 1 1 6 7 . .\n",
+    ),
+    (THREE_PREDICATES, "", 3, "greedy", " 1 0 2 3 4 5 6 7\n"),
     (STAR, "", 2, "greedy", " 1 0 4 5 2 3\n 6 0 4 9 7 8\n"),
     // Only the bulk is coloured.
-    ("", TWO, 1, "greedy", " 1 0 2 3\n 1 1 4 5\n"),
+    ("", TWO_PREDICATES, 1, "greedy", " 1 0 2 3\n 1 1 4 5\n"),
 ];
 
 #[test]

@@ -1,5 +1,6 @@
 //! What a store tells of its tables: spilled predicates, ids and counts.
 
+use crate::data::ONE_COLUMN;
 use crate::steps::store_of;
 use rdf_layout::Store;
 use rdf_terms::{KnownDatatype, Term, TermKind, Text, text_of};
@@ -46,11 +47,10 @@ fn spilled(alloc: Global, store: &Store, words: &str) -> Result<String, AllocErr
     let terms = terms_of(alloc, words)?;
     let facts = store.facts(alloc, terms.as_slice())?;
     let spilled = facts.spilled;
-    let seen = &spilled;
     let mut text = String::new(alloc);
-    push_terms(&mut text, seen.direct.as_slice())?;
+    push_terms(&mut text, spilled.direct.as_slice())?;
     text.push_str(" |")?;
-    push_terms(&mut text, seen.reverse.as_slice())?;
+    push_terms(&mut text, spilled.reverse.as_slice())?;
     Ok(text)
 }
 
@@ -74,8 +74,6 @@ fn counts(alloc: Global, store: &Store, words: &str) -> Result<Vec<u64>, AllocEr
 
 const BULK: &str =
     "<u:a> <u:p> \"1\" .\n<u:a> <u:q> \"2\" .\n<u:b> <u:q> \"2\" .\n<u:b> <u:q> <u:a> .\n";
-
-const ONE_COLUMN: &str = "D <u:p> 1\nD <u:q> 1\n";
 
 #[test]
 fn spilled_predicates_are_told(rt: HostRuntime) -> Result<(), Fail> {

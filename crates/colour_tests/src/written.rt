@@ -1,5 +1,6 @@
 //! The tables of stores as text.
 
+use crate::data::{ONE_COLUMN, THREE_PREDICATES, TWO_PREDICATES};
 use crate::steps::store_by;
 use rdf_layout::Store;
 use std::alloc::{AllocError, Global};
@@ -17,7 +18,7 @@ fn text_of(alloc: Global, store: &Store) -> Result<Vec<u8>, AllocError> {
     Ok(text)
 }
 
-const TWO: &str = "<u:a> <u:p> \"1\" .\n<u:a> <u:p> \"2\" .\n";
+const TWO_VALUES: &str = "<u:a> <u:p> \"1\" .\n<u:a> <u:p> \"2\" .\n";
 
 // The list of the bulk goes, and the later one has the next id.
 const LATER: &str = "D <u:a> <u:p> \"1\" .\n<u:a> <u:p> \"3\" .\n";
@@ -40,8 +41,6 @@ table\tTERM\tid:int\tcls:int\tnum:int\ttxt:text\taux:text
 5\t5\t.\t\"3\"\t\"http://www.w3.org/2001/XMLSchema#string\"
 ";
 
-const STAR: &str = "<u:a> <u:p> \"1\" .\n<u:a> <u:q> \"2\" .\n<u:a> <u:r> \"3\" .\n";
-
 // The third predicate has no colour on the direct side, and spills by its hashes.
 const COLOURED: &str = "tables 1
 table\tDPH\tentry:int\tspill:int\tpred1:int\tval1:int\tpred2:int\tval2:int
@@ -62,8 +61,6 @@ table\tTERM\tid:int\tcls:int\tnum:int\ttxt:text\taux:text
 6\t2\t.\t\"u:r\"\t\"\"
 7\t5\t.\t\"3\"\t\"http://www.w3.org/2001/XMLSchema#string\"
 ";
-
-const PAIR: &str = "<u:a> <u:p> \"1\" .\n<u:a> <u:q> \"2\" .\n";
 
 const GIVEN: &str = "tables 1
 table\tDPH\tentry:int\tspill:int\tpred1:int\tval1:int\tpred2:int\tval2:int
@@ -86,9 +83,10 @@ table\tTERM\tid:int\tcls:int\tnum:int\ttxt:text\taux:text
 fn tables_are_written(rt: HostRuntime) -> Result<(), Fail> {
     let alloc = rt.alloc();
     for (bulk, later, columns, way, want) in [
-        (TWO, LATER, (1, 1), "hashed", LISTED),
-        (STAR, "", (2, 2), "greedy", COLOURED),
-        (PAIR, "", (2, 1), "D <u:p> 1\nD <u:q> 1\n", GIVEN),
+        (TWO_VALUES, LATER, (1, 1), "hashed", LISTED),
+        (TWO_VALUES, LATER, (1, 1), "greedy", LISTED),
+        (THREE_PREDICATES, "", (2, 2), "greedy", COLOURED),
+        (TWO_PREDICATES, "", (2, 1), ONE_COLUMN, GIVEN),
     ] {
         let store = store_by(alloc, bulk, later, columns, way)?;
         assert_eq!(rt;

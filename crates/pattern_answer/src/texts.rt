@@ -115,8 +115,8 @@ fn write_rows(
     Ok(text)
 }
 
-/// The text of the answer to one pattern over these triples, of which these variables are shown: a header, and a line for each
-/// solution. The name of variable v is the one at place v.
+/// The text of the answer to one pattern over these triples, of which these variables are shown: a header, and
+/// a line for each solution. The name of variable v is the one at place v.
 pub fn answer(
     alloc: Global,
     triples: &PlainTriples,

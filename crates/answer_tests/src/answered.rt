@@ -1,8 +1,8 @@
 //! The text of an answer, from data lines and the text of a query.
 
-use answer_steps::{Row, answer};
 use indexmap::IndexSet;
 use nt_lines::{Change, LineRefusal, read_changes};
+use query_answer_steps::{Row, answer};
 use query_meaning::{Query, VarId};
 use rdf_meaning::{Text, Triple};
 use rdf_terms::write_term;

@@ -8,10 +8,10 @@ use Rattle.table_meaning.specs.TableText.{is_plain_column, is_plain_table}
 use Rattle.table_meaning.specs.Tables.{NamedTable}
 use Rattle.rdf_meaning.specs.Terms.{RdfTerm}
 use Rattle.layout_meaning.specs.Facts.{FactsOf}
-use Rattle.standing_meaning.specs.Schemas.{LayoutOf, FiveRows, pair_columns, primary_schema, five_tables}
-use Rattle.standing_meaning.specs.Contents.{rows_said, contents_of}
-use Rattle.standing_meaning.specs.Stored.{StoreOf, layout_of, tables_of, stored_triples}
-use Rattle.facts_meaning.specs.Facts.{AreFacts}
+use Rattle.layout_standing_meaning.specs.Schemas.{LayoutOf, FiveRows, pair_columns, primary_schema, five_tables}
+use Rattle.layout_standing_meaning.specs.Contents.{rows_said, contents_of}
+use Rattle.layout_standing_meaning.specs.Stored.{StoreOf, layout_of, tables_of, stored_triples}
+use Rattle.layout_facts_meaning.specs.Facts.{AreFacts}
 
 both : (x y : Bool) → x ≡ true → y ≡ true → (x && y) ≡ true
 both true y a b = b

@@ -1,6 +1,6 @@
 //! Steps of a store. They have no contracts, so that no proof carries what a store holds.
 
-use colouring_lines::{ColourLine, read_colouring};
+use colouring_file::{ColourLine, read_colouring};
 use nt_lines::{Change, LineRefusal, read_changes};
 use pred_columns::ColumnRefusal;
 use rdf_layout::{ColourWay, LayoutChoice, Put, Store, StoreRefusal, Took};

@@ -5,10 +5,10 @@ use Rattle.store_io.specs.Causes.{Rose}
 use Rattle.run_meaning.specs.declared.status.Status.{Status}
 use Rattle.run_meaning.specs.declared.status.Status.TheVariants.{Done, Usage, BadData, BadQuery, Limit, ReadFault, WriteFault, BadTables, BadSql, BadColouring, NotYet, NoMemory}
 use Rattle.run_meaning.specs.declared.command.Command.{Command}
-use Rattle.outcome_meaning.specs.Outcome.{Contents, Texts, NamedFile, Work, files_of, Asks}
-use Rattle.outcome_meaning.specs.FittingText.{FitsText, Fits, FitsFront}
-use Rattle.outcome_meaning.specs.Causes.{Faults, Tells, WhereTold, AsksFor, IsReached, NoReadFailed, Says, Completes}
-use Rattle.outcome_laws.specs.OneOutcome.{AskOnce}
+use Rattle.run_outcome_meaning.specs.Outcome.{Contents, Texts, NamedFile, Work, files_of, Asks}
+use Rattle.run_outcome_meaning.specs.FittingText.{FitsText, Fits, FitsFront}
+use Rattle.run_outcome_meaning.specs.Causes.{Faults, Tells, WhereTold, AsksFor, IsReached, NoReadFailed, Says, Completes}
+use Rattle.run_outcome_laws.specs.OneOutcome.{AskOnce}
 use Rattle.db2rdf_top.specs.Stops.{FitsAsked, Refuses, Puts, NamesSomething}
 
 -- ---- what a text, or a refusal, says once it is put

@@ -4,11 +4,11 @@ use Rattle.std.specs.Prelude.{Option, Some, None, Result, Ok, Err, IfOk, IfErr, 
 use Rattle.std.proofs.lemmas.Bool.{lt-ltb, le-ltb}
 use Rattle.line_meaning.specs.declared.change.Change.{Change}
 use Rattle.line_meaning.specs.Changes.{changes_of}
-use Rattle.change_laws.proofs.Counts.{few}
-use Rattle.colouring_meaning.specs.ColourLines.{ColourOf}
-use Rattle.fragment_queries.specs.declared.refusal.QueryLimit.TheVariants as limit
-use Rattle.fragment_queries.specs.declared.refusal.QueryRefusal.TheVariants as refusal
-use Rattle.fragment_queries.specs.Queries.{too_long}
+use Rattle.line_change_laws.proofs.Counts.{few}
+use Rattle.colouring_file_meaning.specs.ColourLines.{ColourOf}
+use Rattle.sparql_query_meaning.specs.declared.refusal.QueryLimit.TheVariants as limit
+use Rattle.sparql_query_meaning.specs.declared.refusal.QueryRefusal.TheVariants as refusal
+use Rattle.sparql_query_meaning.specs.Queries.{too_long}
 use Rattle.run_meaning.specs.declared.which.Which.TheVariants as which
 use Rattle.run_meaning.specs.declared.status.Status.{Status}
 use Rattle.run_meaning.specs.declared.status.Status.TheVariants.{Done, Usage, BadData, BadQuery, Limit, ReadFault, WriteFault, BadTables, BadSql, BadColouring, NotYet, NoMemory}
@@ -17,11 +17,11 @@ use Rattle.run_meaning.specs.declared.command.Command.TheVariants.{Query, Stats,
 use Rattle.run_meaning.specs.declared.command.Layout.{Layout}
 use Rattle.run_meaning.specs.declared.command.Layout.TheVariants.{Colour, Hash, File}
 use Rattle.run_meaning.specs.declared.command.Options.{Options}
-use Rattle.outcome_meaning.specs.QueryFile.{is_refused}
-use Rattle.outcome_meaning.specs.Outcome.{Contents, Texts, Work, counting, NamedFile, some_data, one_query, colouring_files, files_of, judged_colouring, judged_data, judged_work, AnswerAsks, has_none, ScriptAsks, FileAsks, colours_asked, Behind, Asks}
-use Rattle.outcome_meaning.specs.FittingText.{FitsText}
-use Rattle.outcome_meaning.specs.Refusal.{RefusedAs, refused_map}
-use Rattle.outcome_meaning.specs.Causes.{Tells, WhereTold, IsReached}
+use Rattle.run_outcome_meaning.specs.QueryFile.{is_refused}
+use Rattle.run_outcome_meaning.specs.Outcome.{Contents, Texts, Work, counting, NamedFile, some_data, one_query, colouring_files, files_of, judged_colouring, judged_data, judged_work, AnswerAsks, has_none, ScriptAsks, FileAsks, colours_asked, Behind, Asks}
+use Rattle.run_outcome_meaning.specs.FittingText.{FitsText}
+use Rattle.run_outcome_meaning.specs.Refusal.{RefusedAs, refused_map}
+use Rattle.run_outcome_meaning.specs.Causes.{Tells, WhereTold, IsReached}
 use Rattle.db2rdf_top.specs.Stops.{ColoursIn, GivesColours, HasColours, StopsIn, ColouringStops, Stops, FitsAsked, FailedRead, Refuses}
 
 -- ---- any command

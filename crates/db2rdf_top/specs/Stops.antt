@@ -1,16 +1,16 @@
 -- Why a part of a run stopped, for the functions inside the program.
 use Rattle.std.specs.Prelude.{◌≡◌, ℕ, ◌<◌, List, [], ◌++◌, take, Option, Some, IfSome, Result, Ok, Err, IsOkAnd}
 use Rattle.store_io.specs.Causes.{Rose}
-use Rattle.colouring_meaning.specs.ColourLines.{ColourOf}
+use Rattle.colouring_file_meaning.specs.ColourLines.{ColourOf}
 use Rattle.run_meaning.specs.declared.status.Status.{Status}
 use Rattle.run_meaning.specs.declared.status.Status.TheVariants.{Done, Usage, BadData, BadQuery, Limit, ReadFault, WriteFault, BadTables, BadSql, BadColouring, NotYet, NoMemory}
 use Rattle.run_meaning.specs.declared.command.Layout.{Layout}
 use Rattle.run_meaning.specs.declared.command.Layout.TheVariants.{Colour, Hash, File}
 use Rattle.run_meaning.specs.declared.command.Options.{Options}
 use Rattle.run_meaning.specs.declared.command.Command.{Command}
-use Rattle.outcome_meaning.specs.Outcome.{Contents, files_of, judged_colouring}
-use Rattle.outcome_meaning.specs.FittingText.{FitsText}
-use Rattle.outcome_meaning.specs.Causes.{IsReached, AsksFor, IsAskedFor}
+use Rattle.run_outcome_meaning.specs.Outcome.{Contents, files_of, judged_colouring}
+use Rattle.run_outcome_meaning.specs.FittingText.{FitsText}
+use Rattle.run_outcome_meaning.specs.Causes.{IsReached, AsksFor, IsAskedFor}
 
 -- why a file gave nothing: what it holds is refused, or a read of it failed
 abbrev pub Stops : Status → List ℕ → (refused : Status → Type 0) → (before after : ℕ) → Type 0

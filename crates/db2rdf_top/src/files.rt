@@ -2,13 +2,13 @@
 
 ghost use Rattle.std.specs.Prelude.{◌≡◌, ◌≤◌, ◌<◌, IfOk, IfErr, OnOk, IfSome, List, ℕ, Ok, Err, length, map};
 ghost use Rattle.store_io.specs.Reading.{CountsFaults};
-ghost use Rattle.colouring_meaning.specs.ColourLines.{AreFit};
-ghost use Rattle.colouring_lines.specs.Colours.{colour_of};
-ghost use Rattle.outcome_meaning.specs.Outcome.{judged_colouring, judged_data};
-ghost use Rattle.outcome_meaning.specs.Refusal.{RefusedAs};
+ghost use Rattle.colouring_file_meaning.specs.ColourLines.{AreFit};
+ghost use Rattle.colouring_file.specs.Colours.{colour_of};
+ghost use Rattle.run_outcome_meaning.specs.Outcome.{judged_colouring, judged_data};
+ghost use Rattle.run_outcome_meaning.specs.Refusal.{RefusedAs};
 ghost use Rattle.db2rdf_top.specs.Stops.{GivesColours, HasColours, ColouringStops, Stops};
 
-use colouring_lines::{ColourLine, read_colouring};
+use colouring_file::{ColourLine, read_colouring};
 use line_meaning::Change;
 use nt_lines::{LineRefusal, read_changes};
 use rdf_terms::text_of;

@@ -2,13 +2,13 @@
 
 ghost use Rattle.std.specs.Prelude.{◌≡◌, ◌++◌, ◌∷◌, [], IfOk, OnOk, ◌⊎◌, codes, decimal};
 ghost use Rattle.run_meaning.specs.Codes.{line_of, name_of, name_of_feature, text_of_query_fault, text_of_fault, in_select};
-ghost use Rattle.outcome_meaning.specs.Causes.{Told};
+ghost use Rattle.run_outcome_meaning.specs.Causes.{Told};
 ghost use Rattle.db2rdf_top.specs.Stops.{NamesSomething};
 
-use fragment_meaning::Feature;
 use itoa::Buffer;
 use rdf_terms::Text;
 use run_meaning::{QueryFault, SqlFault, Status, Which};
+use sparql_meaning::Feature;
 use std::alloc::{AllocError, Global};
 use store_io::Sink;
 

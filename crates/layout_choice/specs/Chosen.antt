@@ -3,12 +3,12 @@ use Rattle.std.specs.Prelude.{ℕ, Bool, true, false, if◌then◌else◌, List,
 use Rattle.rdf_terms.specs.declared.side.SideName.{SideName}
 use Rattle.rdf_terms.specs.declared.side.SideName.TheVariants.{Direct, Reverse}
 use Rattle.layout_meaning.specs.Columns.{ColumnsOf}
-use Rattle.columns_meaning.specs.Layouts.{ChoiceOf}
+use Rattle.layout_columns_meaning.specs.Layouts.{ChoiceOf}
 use Rattle.pred_columns.specs.declared.columns.ColourPair.{ColourPair}
 use Rattle.pred_columns.specs.declared.columns.ColumnRefusal.{ColumnRefusal}
 use Rattle.pred_columns.specs.Refusal.{known_of, refusal_of}
-use Rattle.colouring_meaning.specs.ColourLines.{same_side}
-use Rattle.colouring_lines.specs.declared.colours.ColourLine.{ColourLine}
+use Rattle.colouring_file_meaning.specs.ColourLines.{same_side}
+use Rattle.colouring_file.specs.declared.colours.ColourLine.{ColourLine}
 use Rattle.layout_choice.specs.declared.choice.ColourWay.{ColourWay}
 use Rattle.layout_choice.specs.declared.choice.ColourWay.TheVariants.{HashOnly, Greedy, Given}
 

@@ -1,9 +1,9 @@
 -- Choices that are not refused.
 use Rattle.std.specs.Prelude.{◌≡◌, ◌≤◌, ℕ, map, None}
 use Rattle.std.specs.Global.{Vec}
-use Rattle.colouring_meaning.specs.ColourLines.{AreFit}
-use Rattle.colouring_lines.specs.Colours.{colour_of}
-use Rattle.colouring_lines.specs.declared.colours.ColourLine.{ColourLine}
+use Rattle.colouring_file_meaning.specs.ColourLines.{AreFit}
+use Rattle.colouring_file.specs.Colours.{colour_of}
+use Rattle.colouring_file.specs.declared.colours.ColourLine.{ColourLine}
 use Rattle.layout_choice.specs.declared.choice.ColourWay.TheVariants.{HashOnly, Greedy, Given}
 use Rattle.layout_choice.specs.Chosen.{refusal_chosen}
 

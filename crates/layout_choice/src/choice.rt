@@ -4,7 +4,7 @@ ghost use Rattle.std.specs.Prelude.{◌≡◌, ◌≢◌, IfOk, IfErr, OnOk, Non
 ghost use Rattle.layout_choice.specs.Chosen.{choice_made, refusal_chosen, colours_bulk};
 
 use crate::pairs::known_pairs;
-use colouring_lines::ColourLine;
+use colouring_file::ColourLine;
 use pred_columns::{ColumnRefusal, Columns};
 use rdf_terms::SideName;
 use std::alloc::Global;
@@ -32,7 +32,7 @@ pub struct LayoutChoice {
 
 impl Model for LayoutChoice {
     ghost use Rattle.std.specs.Prelude.{◌≡◌};
-    ghost use Rattle.columns_meaning.specs.Layouts.{ChoiceOf};
+    ghost use Rattle.layout_columns_meaning.specs.Layouts.{ChoiceOf};
 
     ghost Value = { ChoiceOf };
 

@@ -1,11 +1,11 @@
 //! The colours of one side.
 
 ghost use Rattle.std.specs.Prelude.{◌≡◌, ◌∷◌, ◌++◌, [], if◌then◌else◌, IfOk, OnOk};
-ghost use Rattle.colouring_meaning.specs.ColourLines.{same_side};
+ghost use Rattle.colouring_file_meaning.specs.ColourLines.{same_side};
 ghost use Rattle.layout_choice.specs.Chosen.{pair_of, pairs_on, known_pairs};
 
 use crate::choice::ColourWay;
-use colouring_lines::ColourLine;
+use colouring_file::ColourLine;
 use pred_columns::ColourPair;
 use rdf_terms::SideName;
 use std::alloc::{AllocError, Global};

@@ -8,25 +8,25 @@ use Rattle.bags.specs.BagLaws.{each-map}
 use Rattle.rdf_meaning.specs.Terms.{RdfTerm}
 use Rattle.rdf_terms.specs.declared.side.SideName.{SideName}
 use Rattle.rdf_terms.specs.declared.side.SideName.TheVariants.{Direct, Reverse}
-use Rattle.colouring_meaning.specs.ColourLines.{ColourOf, columns_on, same_side, AreFit}
+use Rattle.colouring_file_meaning.specs.ColourLines.{ColourOf, columns_on, same_side, AreFit}
 use Rattle.run_meaning.specs.declared.command.Layout.{Layout}
 use Rattle.run_meaning.specs.declared.command.Layout.TheVariants.{Colour, Hash, File}
 use Rattle.run_meaning.specs.declared.command.Options.{Options}
-use Rattle.command_laws.specs.Ranges.{AreInRange}
+use Rattle.run_command_laws.specs.Ranges.{AreInRange}
 use Rattle.layout_meaning.specs.Columns.{ColumnsOf, candidates_of}
 use Rattle.layout_meaning.specs.Side.{Item}
 use Rattle.layout_meaning.proofs.Candidates.{candidates, first-below}
-use Rattle.standing_meaning.specs.Schemas.{LayoutOf}
-use Rattle.standing_meaning.specs.Sides.{turned}
-use Rattle.standing_meaning.specs.Stored.{text_of_id}
-use Rattle.bulk_laws.specs.BulkStore.{HaveCandidates}
-use Rattle.colour_meaning.specs.Interference.{Graph, has}
-use Rattle.colour_meaning.specs.Colouring.{rank, column_of, is_taken, IsLeastFree, IsColouring}
-use Rattle.colour_meaning.proofs.Ranks.{apart}
-use Rattle.colour_meaning.proofs.Steps.{at_itself, at_other, each_has, key_of_column}
-use Rattle.columns_meaning.specs.BulkColours.{AreKnown, AreBulkColours, AreColumnsFor}
-use Rattle.columns_meaning.specs.Layouts.{ChoiceOf, IsLayoutFor}
-use Rattle.placed_meaning.specs.Chosen.{known_on, known_by, choice_of}
+use Rattle.layout_standing_meaning.specs.Schemas.{LayoutOf}
+use Rattle.layout_standing_meaning.specs.Sides.{turned}
+use Rattle.layout_standing_meaning.specs.Stored.{text_of_id}
+use Rattle.layout_bulk_laws.specs.BulkStore.{HaveCandidates}
+use Rattle.pred_colour_meaning.specs.Interference.{Graph, has}
+use Rattle.pred_colour_meaning.specs.Colouring.{rank, column_of, is_taken, IsLeastFree, IsColouring}
+use Rattle.pred_colour_meaning.proofs.Ranks.{apart}
+use Rattle.pred_colour_meaning.proofs.Steps.{at_itself, at_other, each_has, key_of_column}
+use Rattle.layout_columns_meaning.specs.BulkColours.{AreKnown, AreBulkColours, AreColumnsFor}
+use Rattle.layout_columns_meaning.specs.Layouts.{ChoiceOf, IsLayoutFor}
+use Rattle.layout_placed_meaning.specs.Chosen.{known_on, known_by, choice_of}
 
 -- ---- each colour is below the count
 

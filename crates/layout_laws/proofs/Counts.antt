@@ -12,10 +12,10 @@ use Rattle.layout_meaning.specs.Columns.{ColumnsOf}
 use Rattle.layout_meaning.specs.Side.{Pair, ValueLists, is_pred}
 use Rattle.layout_meaning.specs.Sound.{one_if, numbered, IsSoundList}
 use Rattle.layout_meaning.specs.Rows.{NumberedRow, IsCountOf}
-use Rattle.standing_meaning.specs.Contents.{SideContents, pair_cells, row_cells, element_cells}
-use Rattle.standing_meaning.specs.Standing.{is_spilled_in}
-use Rattle.standing_meaning.proofs.Each.{any-flat_map}
-use Rattle.stats_meaning.specs.Statistics.{SideStatsOf, AreSideStats}
+use Rattle.layout_standing_meaning.specs.Contents.{SideContents, pair_cells, row_cells, element_cells}
+use Rattle.layout_standing_meaning.specs.Standing.{is_spilled_in}
+use Rattle.layout_standing_meaning.proofs.Each.{any-flat_map}
+use Rattle.layout_stats_meaning.specs.Statistics.{SideStatsOf, AreSideStats}
 
 any-map : {X Y : Type 0} (t : Y → Bool) (f : X → Y) (xs : List X) → list_any t (map f xs) ≡ list_any (λ x. t (f x)) xs
 any-map t f [] = refl

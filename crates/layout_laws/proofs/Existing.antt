@@ -12,19 +12,19 @@ use Rattle.rdf_meaning.specs.Terms.{RdfTerm}
 use Rattle.line_meaning.specs.declared.change.Change.{Change}
 use Rattle.line_meaning.specs.Present.{named, bulk}
 use Rattle.run_meaning.specs.declared.command.Options.{Options}
-use Rattle.colouring_meaning.specs.ColourLines.{ColourOf}
+use Rattle.colouring_file_meaning.specs.ColourLines.{ColourOf}
 use Rattle.layout_meaning.specs.Columns.{ColumnsOf}
 use Rattle.layout_meaning.specs.Side.{Item}
-use Rattle.standing_meaning.specs.Schemas.{LayoutOf}
-use Rattle.standing_meaning.specs.Sides.{turned}
-use Rattle.standing_meaning.specs.Stored.{text_of_id}
-use Rattle.bulk_laws.specs.BulkStore.{terms_of, bulk_items}
-use Rattle.colour_meaning.specs.Interference.{Graph, IsInterference, has, interfere, neighbours_of}
-use Rattle.colour_meaning.proofs.Steps.{is_at-same, same_number}
-use Rattle.colour_meaning.proofs.Made.{some_colouring}
-use Rattle.columns_meaning.specs.BulkColours.{AreKnown, AreColumnsFor, entities_of}
-use Rattle.columns_meaning.specs.Layouts.{ChoiceOf, IsLayoutFor}
-use Rattle.placed_meaning.specs.Chosen.{IsLayoutOf, choice_of}
+use Rattle.layout_standing_meaning.specs.Schemas.{LayoutOf}
+use Rattle.layout_standing_meaning.specs.Sides.{turned}
+use Rattle.layout_standing_meaning.specs.Stored.{text_of_id}
+use Rattle.layout_bulk_laws.specs.BulkStore.{terms_of, bulk_items}
+use Rattle.pred_colour_meaning.specs.Interference.{Graph, IsInterference, has, interfere, neighbours_of}
+use Rattle.pred_colour_meaning.proofs.Steps.{is_at-same, same_number}
+use Rattle.pred_colour_meaning.proofs.Made.{some_colouring}
+use Rattle.layout_columns_meaning.specs.BulkColours.{AreKnown, AreColumnsFor, entities_of}
+use Rattle.layout_columns_meaning.specs.Layouts.{ChoiceOf, IsLayoutFor}
+use Rattle.layout_placed_meaning.specs.Chosen.{IsLayoutOf, choice_of}
 use Rattle.layout_laws.proofs.Rising.{numbers_of, rising-numbers, distinct-rising, has-numbers}
 
 -- ---- a graph by its neighbours

@@ -9,10 +9,10 @@ use Rattle.std.proofs.lemmas.Bool.{or_right}
 use Rattle.std.proofs.lemmas.Cmp.{nat_eq_equiv}
 use Rattle.std.proofs.lemmas.Map.Made.{length-from_same_keys}
 use Rattle.bags.specs.BagLaws.{each-weaker}
-use Rattle.colour_meaning.specs.Interference.{Graph, IsInterference, has, neighbours_of}
-use Rattle.colour_meaning.specs.Colouring.{degree, rank, column_of, is_column, is_taken, IsColouring}
-use Rattle.colour_meaning.proofs.Steps.{any-same, same_number, least-same}
-use Rattle.colour_meaning.proofs.Unique.{same_colouring}
+use Rattle.pred_colour_meaning.specs.Interference.{Graph, IsInterference, has, neighbours_of}
+use Rattle.pred_colour_meaning.specs.Colouring.{degree, rank, column_of, is_column, is_taken, IsColouring}
+use Rattle.pred_colour_meaning.proofs.Steps.{any-same, same_number, least-same}
+use Rattle.pred_colour_meaning.proofs.Unique.{same_colouring}
 
 -- ---- one test over lists with the same numbers
 

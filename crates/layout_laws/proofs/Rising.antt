@@ -5,7 +5,7 @@ use Rattle.std.specs.List.Sorted.{IsStrictlySortedBy}
 use Rattle.std.specs.Ordering.{nat_cmp}
 use Rattle.std.proofs.lemmas.Cmp.{nat_cmp_total}
 use Rattle.bags.specs.BagLaws.{each-weaker}
-use Rattle.colour_meaning.specs.Interference.{has}
+use Rattle.pred_colour_meaning.specs.Interference.{has}
 
 abbrev put_by : Ordering → ℕ → ℕ → List ℕ → List ℕ → List ℕ
 put_by Less x y ys more = x ∷ y ∷ ys

@@ -6,18 +6,18 @@ use Rattle.rdf_meaning.specs.Terms.{RdfTriple}
 use Rattle.line_meaning.specs.declared.change.Change.{Change}
 use Rattle.line_meaning.specs.Present.{present}
 use Rattle.run_meaning.specs.declared.command.Options.{Options}
-use Rattle.colouring_meaning.specs.ColourLines.{ColourOf}
+use Rattle.colouring_file_meaning.specs.ColourLines.{ColourOf}
 use Rattle.table_meaning.specs.declared.cell.Cell.{Cell}
 use Rattle.table_meaning.specs.Tables.{NamedTable}
 use Rattle.layout_meaning.specs.Columns.{ColumnsOf}
-use Rattle.standing_meaning.specs.Dictionary.{Entry}
-use Rattle.standing_meaning.specs.Schemas.{LayoutOf, FiveRows, five_tables}
-use Rattle.standing_meaning.specs.Contents.{SideContents, Contents, rows_said, term_cells}
-use Rattle.standing_meaning.specs.Standing.{SideStands, AreTables}
-use Rattle.stats_meaning.specs.Statistics.{StatsOf, AreStats, stats_text}
-use Rattle.placed_meaning.specs.StatsText.{IsStatsText}
-use Rattle.placed_meaning.specs.Placed.{placed_tables}
-use Rattle.placed_meaning.specs.Chosen.{IsCounted}
+use Rattle.layout_standing_meaning.specs.Dictionary.{Entry}
+use Rattle.layout_standing_meaning.specs.Schemas.{LayoutOf, FiveRows, five_tables}
+use Rattle.layout_standing_meaning.specs.Contents.{SideContents, Contents, rows_said, term_cells}
+use Rattle.layout_standing_meaning.specs.Standing.{SideStands, AreTables}
+use Rattle.layout_stats_meaning.specs.Statistics.{StatsOf, AreStats, stats_text}
+use Rattle.layout_placed_meaning.specs.StatsText.{IsStatsText}
+use Rattle.layout_placed_meaning.specs.Placed.{placed_tables}
+use Rattle.layout_placed_meaning.specs.Chosen.{IsCounted}
 use Rattle.layout_laws.proofs.Counts.{AreApartLists, rows-counted, one_side}
 use Rattle.layout_laws.proofs.Layouts.{one_chosen}
 

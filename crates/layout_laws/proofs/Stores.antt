@@ -7,21 +7,21 @@ use Rattle.rdf_meaning.specs.Terms.{RdfTerm, RdfTriple, same_term, same_triple}
 use Rattle.line_meaning.specs.declared.change.Change.{Change}
 use Rattle.line_meaning.specs.declared.change.Change.TheVariants.{Add, Delete}
 use Rattle.line_meaning.specs.Present.{named, bulk, is_present, present}
-use Rattle.change_laws.proofs.Present.{present_members, present_added, present_deleted, adds_present}
+use Rattle.line_change_laws.proofs.Present.{present_members, present_added, present_deleted, adds_present}
 use Rattle.layout_meaning.specs.Side.{Item, items}
 use Rattle.layout_meaning.specs.Sound.{IsSound}
-use Rattle.standing_meaning.specs.Dictionary.{IsTriple}
-use Rattle.standing_meaning.specs.Schemas.{LayoutOf}
-use Rattle.standing_meaning.specs.Stored.{StoreOf, IsStore, IsItem, sides_of, triple_by, stored_triples}
-use Rattle.standing_meaning.specs.Changes.{item_in, store_of, is_stored, stored_in, taken_out}
-use Rattle.standing_meaning.proofs.Steps.{sides-empty}
-use Rattle.standing_meaning.proofs.Terms.{term_at-id}
-use Rattle.standing_meaning.proofs.Changed.{store-in, triples-in, store-out, triples-out}
-use Rattle.bulk_meaning.specs.Bulk.{empty_side}
-use Rattle.bulk_laws.specs.BulkStore.{each_once, terms_of, bulk_items, bulk_sides, bulk_store}
-use Rattle.bulk_laws.proofs.Bulks.{bulks_are_stores, bulks_hold}
-use Rattle.placed_meaning.specs.Placed.{changed_in, later_changes, placed_store}
-use Rattle.placed_laws.proofs.Steps.{parts, bulk-terms, fold-terms}
+use Rattle.layout_standing_meaning.specs.Dictionary.{IsTriple}
+use Rattle.layout_standing_meaning.specs.Schemas.{LayoutOf}
+use Rattle.layout_standing_meaning.specs.Stored.{StoreOf, IsStore, IsItem, sides_of, triple_by, stored_triples}
+use Rattle.layout_standing_meaning.specs.Changes.{item_in, store_of, is_stored, stored_in, taken_out}
+use Rattle.layout_standing_meaning.proofs.Steps.{sides-empty}
+use Rattle.layout_standing_meaning.proofs.Terms.{term_at-id}
+use Rattle.layout_standing_meaning.proofs.Changed.{store-in, triples-in, store-out, triples-out}
+use Rattle.layout_bulk_meaning.specs.Bulk.{empty_side}
+use Rattle.layout_bulk_laws.specs.BulkStore.{each_once, terms_of, bulk_items, bulk_sides, bulk_store}
+use Rattle.layout_bulk_laws.proofs.Bulks.{bulks_are_stores, bulks_hold}
+use Rattle.layout_placed_meaning.specs.Placed.{changed_in, later_changes, placed_store}
+use Rattle.layout_placed_laws.proofs.Steps.{parts, bulk-terms, fold-terms}
 use Rattle.layout_laws.proofs.Columns.{HasCandidates}
 
 -- a store that holds what is present after changes

@@ -7,22 +7,22 @@ use Rattle.std.proofs.lemmas.List.Kept.{IsStrictlySortedBy-filter}
 use Rattle.line_meaning.specs.declared.change.Change.{Change}
 use Rattle.line_meaning.specs.Present.{named, bulk, present}
 use Rattle.run_meaning.specs.declared.command.Options.{Options}
-use Rattle.colouring_meaning.specs.ColourLines.{ColourOf, AreFit}
-use Rattle.command_laws.specs.Ranges.{AreInRange}
+use Rattle.colouring_file_meaning.specs.ColourLines.{ColourOf, AreFit}
+use Rattle.run_command_laws.specs.Ranges.{AreInRange}
 use Rattle.layout_meaning.specs.Side.{Pair, Row, Rows, Entities, is_pred}
 use Rattle.layout_meaning.specs.Rows.{SideOf, IsCountOf, is_spilled, later, row_total}
-use Rattle.standing_meaning.specs.Schemas.{LayoutOf}
-use Rattle.standing_meaning.specs.Contents.{side_contents}
-use Rattle.standing_meaning.specs.Stored.{StoreOf, IsStore, layout_of, tables_of, stored_triples}
-use Rattle.standing_meaning.proofs.Each.{any-flat_map}
-use Rattle.stats_meaning.specs.Statistics.{SideStatsOf, StatsOf, AreSideStats, AreStats, stats_text}
-use Rattle.stats_laws.proofs.Counts.{side-counted, store-counted}
-use Rattle.bulk_laws.specs.BulkStore.{terms_of, bulk_items}
-use Rattle.colour_meaning.specs.Interference.{has}
-use Rattle.placed_meaning.specs.Placed.{placed_store, placed_tables}
-use Rattle.placed_meaning.specs.Chosen.{IsCounted}
-use Rattle.placed_laws.proofs.Steps.{placed-layout}
-use Rattle.placed_laws.proofs.Same.{same-stats}
+use Rattle.layout_standing_meaning.specs.Schemas.{LayoutOf}
+use Rattle.layout_standing_meaning.specs.Contents.{side_contents}
+use Rattle.layout_standing_meaning.specs.Stored.{StoreOf, IsStore, layout_of, tables_of, stored_triples}
+use Rattle.layout_standing_meaning.proofs.Each.{any-flat_map}
+use Rattle.layout_stats_meaning.specs.Statistics.{SideStatsOf, StatsOf, AreSideStats, AreStats, stats_text}
+use Rattle.layout_stats_laws.proofs.Counts.{side-counted, store-counted}
+use Rattle.layout_bulk_laws.specs.BulkStore.{terms_of, bulk_items}
+use Rattle.pred_colour_meaning.specs.Interference.{has}
+use Rattle.layout_placed_meaning.specs.Placed.{placed_store, placed_tables}
+use Rattle.layout_placed_meaning.specs.Chosen.{IsCounted}
+use Rattle.layout_placed_laws.proofs.Steps.{placed-layout}
+use Rattle.layout_placed_laws.proofs.Same.{same-stats}
 use Rattle.layout_laws.proofs.Rising.{numbers_of, rising-numbers, distinct-rising, has-numbers}
 use Rattle.layout_laws.proofs.Existing.{any-weaker, has-filter, some_chosen}
 use Rattle.layout_laws.proofs.Columns.{chosen-candidates}

@@ -8,17 +8,17 @@ ghost use Rattle.rdf_meaning.specs.Terms.{RdfTerm, RdfTriple};
 ghost use Rattle.line_meaning.specs.declared.change.Change.{Change};
 ghost use Rattle.line_meaning.specs.Present.{named};
 ghost use Rattle.run_meaning.specs.declared.command.Options.{Options};
-ghost use Rattle.colouring_meaning.specs.ColourLines.{ColourOf, AreFit};
-ghost use Rattle.command_laws.specs.Ranges.{AreInRange};
+ghost use Rattle.colouring_file_meaning.specs.ColourLines.{ColourOf, AreFit};
+ghost use Rattle.run_command_laws.specs.Ranges.{AreInRange};
 ghost use Rattle.layout_meaning.specs.Side.{Item};
-ghost use Rattle.standing_meaning.specs.Dictionary.{IsTriple};
-ghost use Rattle.standing_meaning.specs.Schemas.{LayoutOf};
-ghost use Rattle.colour_meaning.specs.Interference.{Graph, IsInterference};
-ghost use Rattle.colour_meaning.specs.Colouring.{IsColouring};
-ghost use Rattle.columns_meaning.specs.Layouts.{ChoiceOf, IsLayoutFor};
+ghost use Rattle.layout_standing_meaning.specs.Dictionary.{IsTriple};
+ghost use Rattle.layout_standing_meaning.specs.Schemas.{LayoutOf};
+ghost use Rattle.pred_colour_meaning.specs.Interference.{Graph, IsInterference};
+ghost use Rattle.pred_colour_meaning.specs.Colouring.{IsColouring};
+ghost use Rattle.layout_columns_meaning.specs.Layouts.{ChoiceOf, IsLayoutFor};
 ghost use Rattle.table_meaning.specs.Tables.{NamedTable};
-ghost use Rattle.stats_meaning.specs.Statistics.{StatsOf, AreStats};
-ghost use Rattle.placed_meaning.specs.Chosen.{IsLayoutOf, IsCounted};
+ghost use Rattle.layout_stats_meaning.specs.Statistics.{StatsOf, AreStats};
+ghost use Rattle.layout_placed_meaning.specs.Chosen.{IsLayoutOf, IsCounted};
 
 /// Entities have an interference, and all their interferences have one colouring with k columns.
 pub fn entities_have_one_colouring()

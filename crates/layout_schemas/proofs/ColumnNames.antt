@@ -8,7 +8,7 @@ use Rattle.std.proofs.lemmas.Fmt.{decimal_injective}
 use Rattle.std.proofs.lemmas.Slice.Eq.{bytes_eq-Decides}
 use Rattle.table_meaning.specs.declared.schema.Column.{Column}
 use Rattle.table_meaning.specs.Schemas.{are_distinct, column_names, is_schema}
-use Rattle.standing_meaning.specs.Schemas.{int_column, pair_columns, primary_schema, list_schema, term_schema}
+use Rattle.layout_standing_meaning.specs.Schemas.{int_column, pair_columns, primary_schema, list_schema, term_schema}
 
 pub both : (x y : Bool) → x ≡ true → y ≡ true → (x && y) ≡ true
 both true y a b = b

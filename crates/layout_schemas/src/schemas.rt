@@ -2,7 +2,7 @@
 
 ghost use Rattle.std.specs.Prelude.{◌≡◌, ◌≤◌, ◌++◌, ◌+◌, ◌∷◌, [], IfOk, OnOk};
 ghost use Rattle.std.specs.Fmt.{decimal};
-ghost use Rattle.standing_meaning.specs.Schemas.{pair_columns, primary_schema, list_schema, term_schema};
+ghost use Rattle.layout_standing_meaning.specs.Schemas.{pair_columns, primary_schema, list_schema, term_schema};
 
 use rdf_terms::{Text, text_of};
 use rel_cells::{Column, Kind, Schema};

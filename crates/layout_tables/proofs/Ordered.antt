@@ -11,10 +11,10 @@ use Rattle.table_meaning.specs.Tables.{NamedTable}
 use Rattle.layout_meaning.specs.Side.{Rows, Entities, ValueLists, SideState}
 use Rattle.layout_meaning.specs.Sound.{one_if, numbered}
 use Rattle.layout_meaning.specs.Rows.{NumberedRow, rows_from, numbered_rows}
-use Rattle.standing_meaning.specs.Dictionary.{Entry, numbered_from}
-use Rattle.standing_meaning.specs.Contents.{contents_of, side_contents}
-use Rattle.standing_meaning.specs.Stored.{StoreOf, IsStore, sides_of, layout_of, tables_of}
-use Rattle.list_order.specs.InOrder.{AreRising, AreInOrder}
+use Rattle.layout_standing_meaning.specs.Dictionary.{Entry, numbered_from}
+use Rattle.layout_standing_meaning.specs.Contents.{contents_of, side_contents}
+use Rattle.layout_standing_meaning.specs.Stored.{StoreOf, IsStore, sides_of, layout_of, tables_of}
+use Rattle.layout_list_laws.specs.InOrder.{AreRising, AreInOrder}
 use Rattle.layout_tables.specs.RowOrder.{StandsBefore, IsInOrder, StandInOrder}
 
 -- each item and each later one, by recursion

@@ -10,8 +10,8 @@ use Rattle.primary_rows.specs.Cells.{pair_of}
 use Rattle.primary_rows.specs.declared.cells.Pair as cells
 use Rattle.primary_rows.specs.declared.views.RowView.{RowView}
 use Rattle.primary_rows.specs.Views.{seen_row}
-use Rattle.standing_meaning.specs.Dictionary.{numbered_from, entries_of}
-use Rattle.standing_meaning.specs.Contents.{pair_cells, row_cells, term_cells}
+use Rattle.layout_standing_meaning.specs.Dictionary.{numbered_from, entries_of}
+use Rattle.layout_standing_meaning.specs.Contents.{pair_cells, row_cells, term_cells}
 
 abbrev cell_in : List Cell → ℕ → Cell
 cell_in row col = unwrap_or (slice_get row col) Null

@@ -13,11 +13,11 @@ use Rattle.layout_meaning.specs.declared.value.Value.TheVariants.{One, Many}
 use Rattle.layout_meaning.specs.Side.{Row, Rows, Entities, ValueLists}
 use Rattle.layout_meaning.specs.Sound.{AreSoundRows}
 use Rattle.layout_meaning.specs.Rows.{SideOf, NumberedRow, numbered_rows}
-use Rattle.standing_meaning.specs.Dictionary.{numbered_from, entries_of}
-use Rattle.standing_meaning.specs.Schemas.{pair_columns, primary_schema, list_schema, term_schema, table_of}
-use Rattle.standing_meaning.specs.Contents.{value_cell, pair_cells, row_cells, element_cells, number_cell, term_cells}
-use Rattle.standing_meaning.specs.Stored.{StoreOf, IsStore, tables_of}
-use Rattle.standing_meaning.proofs.Numbered.{each-numbered}
+use Rattle.layout_standing_meaning.specs.Dictionary.{numbered_from, entries_of}
+use Rattle.layout_standing_meaning.specs.Schemas.{pair_columns, primary_schema, list_schema, term_schema, table_of}
+use Rattle.layout_standing_meaning.specs.Contents.{value_cell, pair_cells, row_cells, element_cells, number_cell, term_cells}
+use Rattle.layout_standing_meaning.specs.Stored.{StoreOf, IsStore, tables_of}
+use Rattle.layout_standing_meaning.proofs.Numbered.{each-numbered}
 use Rattle.layout_schemas.proofs.ColumnNames.{both, primary-is}
 
 value-kind : (v : Value) → has_kind kinds.Int (value_cell v) ≡ true

@@ -2,9 +2,9 @@
 use Rattle.std.specs.Prelude.{◌≡◌, ◌⊎◌, ℕ, ◌<◌, List, AllPairs}
 use Rattle.table_meaning.specs.Tables.{NamedTable}
 use Rattle.layout_meaning.specs.Rows.{NumberedRow}
-use Rattle.standing_meaning.specs.Dictionary.{Entry}
-use Rattle.standing_meaning.specs.Schemas.{LayoutOf, five_tables}
-use Rattle.standing_meaning.specs.Contents.{SideContents, Contents, rows_said}
+use Rattle.layout_standing_meaning.specs.Dictionary.{Entry}
+use Rattle.layout_standing_meaning.specs.Schemas.{LayoutOf, five_tables}
+use Rattle.layout_standing_meaning.specs.Contents.{SideContents, Contents, rows_said}
 
 -- a row stands before another: its entity is lower, or it is the same entity and the row's number is lower
 abbrev pub StandsBefore : NumberedRow → NumberedRow → Type 0

@@ -2,9 +2,9 @@
 use Rattle.std.specs.Prelude.{List, map}
 use Rattle.table_meaning.specs.declared.cell.Cell.{Cell}
 use Rattle.primary_rows.specs.Views.{seen_row}
-use Rattle.standing_meaning.specs.Dictionary.{entries_of}
-use Rattle.standing_meaning.specs.Contents.{row_cells, term_cells}
-use Rattle.list_elements.specs.ElementRows.{element_row}
+use Rattle.layout_standing_meaning.specs.Dictionary.{entries_of}
+use Rattle.layout_standing_meaning.specs.Contents.{row_cells, term_cells}
+use Rattle.layout_elements.specs.ElementRows.{element_row}
 use Rattle.layout_tables.specs.declared.table.TableRows.{TableRows}
 use Rattle.layout_tables.specs.declared.table.TableRows.TheVariants.{Primary, Lists, Terms}
 

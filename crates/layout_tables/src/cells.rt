@@ -6,11 +6,11 @@ ghost use Rattle.table_meaning.specs.declared.cell.Cell.TheVariants.{Null};
 ghost use Rattle.rel_cells.specs.Seen.{seen_cell};
 ghost use Rattle.primary_rows.specs.Cells.{pair_of};
 ghost use Rattle.primary_rows.specs.Views.{seen_row};
-ghost use Rattle.standing_meaning.specs.Dictionary.{entries_of};
-ghost use Rattle.standing_meaning.specs.Contents.{pair_cells, row_cells, number_cell, term_cells};
-ghost use Rattle.list_elements.specs.ElementRows.{element_row};
+ghost use Rattle.layout_standing_meaning.specs.Dictionary.{entries_of};
+ghost use Rattle.layout_standing_meaning.specs.Contents.{pair_cells, row_cells, number_cell, term_cells};
+ghost use Rattle.layout_elements.specs.ElementRows.{element_row};
 
-use list_elements::Element;
+use layout_elements::Element;
 use primary_rows::{Pair, RowView};
 use rdf_terms::{Term, TermId, class_of, number_of};
 use rel_cells::CellView;

@@ -6,7 +6,7 @@ ghost use Rattle.rel_cells.specs.Seen.{seen_cell};
 ghost use Rattle.layout_tables.specs.Shown.{shown_rows};
 
 use crate::cells::{element_cell, primary_cell, term_cell};
-use list_elements::Element;
+use layout_elements::Element;
 use primary_rows::RowView;
 use rdf_terms::Text;
 use rel_cells::{CellView, Schema};

@@ -6,26 +6,26 @@ ghost use Rattle.std.specs.List.Sorted.{IsStrictlySortedBy};
 ghost use Rattle.std.specs.Map.{keys_of};
 ghost use Rattle.std.specs.Ordering.{nat_cmp};
 ghost use Rattle.layout_meaning.specs.Rows.{numbered_rows};
-ghost use Rattle.standing_meaning.specs.Dictionary.{entries_of};
-ghost use Rattle.standing_meaning.specs.Schemas.{primary_schema, list_schema, term_schema, table_of};
-ghost use Rattle.standing_meaning.specs.Contents.{row_cells, element_cells, term_cells, contents_of};
-ghost use Rattle.standing_meaning.specs.Stored.{IsStore, tables_of, layout_of};
-ghost use Rattle.standing_meaning.specs.Changes.{store_of};
-ghost use Rattle.list_order.specs.InOrder.{AreInOrder, AreRising};
+ghost use Rattle.layout_standing_meaning.specs.Dictionary.{entries_of};
+ghost use Rattle.layout_standing_meaning.specs.Schemas.{primary_schema, list_schema, term_schema, table_of};
+ghost use Rattle.layout_standing_meaning.specs.Contents.{row_cells, element_cells, term_cells, contents_of};
+ghost use Rattle.layout_standing_meaning.specs.Stored.{IsStore, tables_of, layout_of};
+ghost use Rattle.layout_standing_meaning.specs.Changes.{store_of};
+ghost use Rattle.layout_list_laws.specs.InOrder.{AreInOrder, AreRising};
 ghost use Rattle.primary_rows.specs.Views.{seen_row};
-ghost use Rattle.list_elements.specs.ElementRows.{element_row};
+ghost use Rattle.layout_elements.specs.ElementRows.{element_row};
 ghost use Rattle.layout_tables.specs.RowOrder.{StandInOrder};
 
 use crate::table::{Table, TableRows};
+use layout_elements::{Element, elements};
 use layout_schemas::{list_schema, primary_schema, term_schema};
-use list_elements::{Element, elements};
+use layout_sides::TripleSides;
 use primary_rows::{RowView, Side};
 use rdf_terms::{Text, text_of};
 use rel_cells::{CellView, Schema, TableSet};
 use std::alloc::{AllocError, Global};
 use std::marker::Model;
 use term_book::TermBook;
-use triple_sides::TripleSides;
 
 /// The tables DPH, DS, RPH, RS and TERM of a store: rows by rising entity, then by number; lists by falling
 /// id; terms by rising id. A cell is found by its place without a walk.

@@ -4,8 +4,8 @@ use Rattle.std.specs.List.{filter}
 use Rattle.std.specs.List.Sorted.{IsStrictlySortedBy}
 use Rattle.std.specs.Ordering.{nat_cmp}
 use Rattle.std.proofs.lemmas.Bool.{or_parts, or_left, or_right}
-use Rattle.colour_meaning.specs.Interference.{has}
-use Rattle.colour_meaning.proofs.Steps.{same_number}
+use Rattle.pred_colour_meaning.specs.Interference.{has}
+use Rattle.pred_colour_meaning.proofs.Steps.{same_number}
 use Rattle.pred_colour.specs.GraphRows.{pred_at, others, AreBelow}
 use Rattle.pred_colour.proofs.Found.{same_place}
 use Rattle.pred_colour.proofs.Members.{at_self, absent}

@@ -9,7 +9,7 @@ use Rattle.std.proofs.lemmas.List.Folds.{list_any_none, list_any_at}
 use Rattle.std.proofs.lemmas.List.Sorted.{searched}
 use Rattle.std.proofs.lemmas.Map.Keys.{non_decreasing_from_sorted, below_from_sorted}
 use Rattle.std.proofs.lemmas.Map.Views.{length-le_from_below}
-use Rattle.colour_meaning.specs.Interference.{has}
+use Rattle.pred_colour_meaning.specs.Interference.{has}
 use Rattle.pred_colour.specs.GraphRows.{pred_at, stands_in, AreBelow}
 use Rattle.pred_colour.proofs.Members.{same_on}
 

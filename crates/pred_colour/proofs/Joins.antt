@@ -5,7 +5,7 @@ use Rattle.std.specs.List.Sorted.{IsStrictlySortedBy}
 use Rattle.std.specs.Ordering.{nat_cmp}
 use Rattle.std.proofs.lemmas.Bool.{or_parts}
 use Rattle.std.proofs.lemmas.List.Folds.{list_any_at}
-use Rattle.colour_meaning.specs.Interference.{has, interfere}
+use Rattle.pred_colour_meaning.specs.Interference.{has, interfere}
 use Rattle.pred_colour.specs.Entities.{are_joined}
 use Rattle.pred_colour.specs.GraphRows.{pred_at, stands_in, is_other, AreBelow}
 use Rattle.pred_colour.proofs.Members.{tests_of_both_if}

@@ -5,8 +5,8 @@ use Rattle.std.specs.List.Sorted.{IsStrictlySortedBy}
 use Rattle.std.specs.Ordering.{nat_cmp}
 use Rattle.std.proofs.lemmas.Bool.{or_left, or_right}
 use Rattle.std.proofs.lemmas.List.Folds.{list_any-append}
-use Rattle.colour_meaning.specs.Interference.{has}
-use Rattle.colour_meaning.proofs.Steps.{same_number, each_has}
+use Rattle.pred_colour_meaning.specs.Interference.{has}
+use Rattle.pred_colour_meaning.proofs.Steps.{same_number, each_has}
 
 pub same_truth : (a b : Bool) → (a ≡ true → b ≡ true) → (b ≡ true → a ≡ true) → a ≡ b
 same_truth true b f g = sym (f refl)

@@ -12,8 +12,8 @@ use Rattle.std.proofs.lemmas.List.Folds.{list_any_at, Any-from_list_any}
 use Rattle.std.proofs.lemmas.List.Kept.{IsStrictlySortedBy-filter}
 use Rattle.std.proofs.lemmas.Map.Keys.{below_from_sorted, Less-from_sorted, IsDistinct-from_apart}
 use Rattle.std.proofs.lemmas.Map.Views.{any-filter_same}
-use Rattle.colour_meaning.specs.Interference.{Graph, has, neighbours_of, interfere, IsInterference}
-use Rattle.colour_meaning.proofs.Steps.{same_number, at_itself, at_other}
+use Rattle.pred_colour_meaning.specs.Interference.{Graph, has, neighbours_of, interfere, IsInterference}
+use Rattle.pred_colour_meaning.proofs.Steps.{same_number, at_itself, at_other}
 use Rattle.pred_colour.specs.Entities.{are_joined}
 use Rattle.pred_colour.specs.GraphRows.{pred_at, row_at, is_other, others, with_rows, graph_of, AreBelow, AreRows}
 use Rattle.pred_colour.proofs.Joins.{any-map, interfering, none_joined}

@@ -6,7 +6,7 @@ use Rattle.std.specs.Ordering.{nat_cmp, eq_by_cmp}
 use Rattle.std.proofs.lemmas.List.Folds.{list_any-append}
 use Rattle.std.proofs.lemmas.List.Kept.{Contains-dedup_nat, Contains-from_dedup}
 use Rattle.std.proofs.lemmas.Map.Views.{Contains-from_any, list_any-from_Contains, exact_unsigned_eq}
-use Rattle.colour_meaning.specs.Interference.{has}
+use Rattle.pred_colour_meaning.specs.Interference.{has}
 use Rattle.pred_colour.proofs.Members.{same_truth}
 
 pub same_ties : (x y : ℕ) → nat_eq x y ≡ eq_by_cmp nat_cmp x y

@@ -15,10 +15,10 @@ use Rattle.std.proofs.lemmas.List.Sorted.{ranks_by}
 use Rattle.bags.specs.Sort.{sort}
 use Rattle.bags.specs.SortLaws.{each-sort}
 use Rattle.bags.specs.StableLaws.{sort-stable}
-use Rattle.colour_meaning.specs.Interference.{Graph, has}
-use Rattle.colour_meaning.specs.Colouring.{rank, degree}
-use Rattle.colour_meaning.proofs.Ranks.{nat_tied, AreApart, strict-sort, any-sort}
-use Rattle.colour_meaning.proofs.Steps.{at_itself}
+use Rattle.pred_colour_meaning.specs.Interference.{Graph, has}
+use Rattle.pred_colour_meaning.specs.Colouring.{rank, degree}
+use Rattle.pred_colour_meaning.proofs.Ranks.{nat_tied, AreApart, strict-sort, any-sort}
+use Rattle.pred_colour_meaning.proofs.Steps.{at_itself}
 use Rattle.pred_colour.specs.declared.turns.Turn.{Turn}
 use Rattle.pred_colour.specs.Turns.{turn_of, pred_of, turn_order}
 use Rattle.pred_colour.proofs.Joins.{any-map}

@@ -5,9 +5,9 @@ use Rattle.std.specs.List.Sorted.{IsStrictlySortedBy}
 use Rattle.std.specs.Ordering.{nat_cmp}
 use Rattle.std.specs.Map.{keys_of}
 use Rattle.std.proofs.lemmas.Bool.{and_parts, cases_lt}
-use Rattle.colour_meaning.specs.Interference.{Graph, has, neighbours_of}
-use Rattle.colour_meaning.specs.Colouring.{column_of, is_column, is_seen}
-use Rattle.colour_meaning.proofs.Steps.{any-same, same_number, column-other, column-new}
+use Rattle.pred_colour_meaning.specs.Interference.{Graph, has, neighbours_of}
+use Rattle.pred_colour_meaning.specs.Colouring.{column_of, is_column, is_seen}
+use Rattle.pred_colour_meaning.proofs.Steps.{any-same, same_number, column-other, column-new}
 use Rattle.pred_colour.specs.Columns.{AreColumns}
 use Rattle.pred_colour.specs.GraphRows.{pred_at, row_at, stands_in, others, graph_of, AreBelow, AreRows}
 use Rattle.pred_colour.proofs.Found.{same_place, has_place}

@@ -3,10 +3,10 @@ use Rattle.std.proofs.Common.{◌≡◌, ◌<◌, ◌+◌, ℕ, suc, List, [], �
 use Rattle.std.specs.List.Sorted.{IsStrictlySortedBy}
 use Rattle.std.proofs.Math.Seq.{take-suc, drop-cons}
 use Rattle.std.proofs.lemmas.List.{take-append-drop, get_or_default}
-use Rattle.colour_meaning.specs.Interference.{Graph}
-use Rattle.colour_meaning.specs.Colouring.{rank, column_of, is_seen, IsLeastFree, AreColours}
-use Rattle.colour_meaning.proofs.Ranks.{front_before}
-use Rattle.colour_meaning.proofs.Steps.{ComesAfter, fresh, stays, takes}
+use Rattle.pred_colour_meaning.specs.Interference.{Graph}
+use Rattle.pred_colour_meaning.specs.Colouring.{rank, column_of, is_seen, IsLeastFree, AreColours}
+use Rattle.pred_colour_meaning.proofs.Ranks.{front_before}
+use Rattle.pred_colour_meaning.proofs.Steps.{ComesAfter, fresh, stays, takes}
 
 here : (order : List ℕ) (i p : ℕ) → i < length order → p ≡ get_or order i p → order ≡ take i order ++ p ∷ drop (suc i) order
 here order i p l e =

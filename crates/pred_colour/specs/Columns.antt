@@ -1,6 +1,6 @@
 -- The places of the predicates that have each column.
 use Rattle.std.specs.Prelude.{◌≡◌, ◌<◌, ℕ, List, length}
-use Rattle.colour_meaning.specs.Colouring.{column_of, is_column}
+use Rattle.pred_colour_meaning.specs.Colouring.{column_of, is_column}
 use Rattle.pred_colour.specs.GraphRows.{row_at, stands_in, AreBelow}
 
 -- k sets: at the places of each stand just the predicates that were given its column

@@ -1,6 +1,6 @@
 -- The predicates of an entity, plainly.
 use Rattle.std.specs.Prelude.{ℕ, nat_eq, not, ◌&&◌, Bool, List}
-use Rattle.colour_meaning.specs.Interference.{has}
+use Rattle.pred_colour_meaning.specs.Interference.{has}
 use Rattle.pred_colour.specs.declared.graph.EntityPreds.{EntityPreds}
 
 abbrev pub preds_of : EntityPreds → List ℕ

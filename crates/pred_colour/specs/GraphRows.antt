@@ -3,7 +3,7 @@ use Rattle.std.specs.Prelude.{◌≡◌, ◌<◌, ℕ, nat_eq, not, ◌&&◌, Bo
 use Rattle.std.specs.List.{list_any, filter}
 use Rattle.std.specs.List.Sorted.{IsStrictlySortedBy}
 use Rattle.std.specs.Ordering.{nat_cmp}
-use Rattle.colour_meaning.specs.Interference.{Graph, has}
+use Rattle.pred_colour_meaning.specs.Interference.{Graph, has}
 
 -- the predicate at a place
 abbrev pub pred_at : List ℕ → ℕ → ℕ

@@ -3,8 +3,8 @@
 ghost use Rattle.std.specs.Prelude.{◌≡◌, ◌≤◌, ◌<◌, ◌+◌, ℕ, length, take, map, true, None, IfOk, OnOk};
 ghost use Rattle.std.specs.List.Sorted.{IsStrictlySortedBy};
 ghost use Rattle.std.specs.Map.{keys_of};
-ghost use Rattle.colour_meaning.specs.Interference.{has};
-ghost use Rattle.colour_meaning.specs.Colouring.{rank, column_of, is_seen, IsLeastFree, AreColours, IsColouring};
+ghost use Rattle.pred_colour_meaning.specs.Interference.{has};
+ghost use Rattle.pred_colour_meaning.specs.Colouring.{rank, column_of, is_seen, IsLeastFree, AreColours, IsColouring};
 ghost use Rattle.pred_colour.specs.Given.{pair_of, pairs_of, HaveColumns};
 ghost use Rattle.pred_colour.specs.GraphRows.{pred_at};
 

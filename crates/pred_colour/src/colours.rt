@@ -1,7 +1,7 @@
 //! The colours that were given.
 
 ghost use Rattle.std.specs.Prelude.{◌≡◌, ◌<◌, ◌∷◌, ◌++◌, ◌&&◌, ◌||◌, [], ℕ, nat_eq, length, replicate, map, IfOk, OnOk};
-ghost use Rattle.colour_meaning.specs.Interference.{has};
+ghost use Rattle.pred_colour_meaning.specs.Interference.{has};
 ghost use Rattle.pred_colour.specs.Given.{pair_of, pairs_of};
 ghost use Rattle.pred_colour.specs.GraphRows.{row_at};
 

@@ -5,7 +5,7 @@ ghost use Rattle.std.specs.List.{list_any};
 ghost use Rattle.std.specs.List.Sorted.{IsStrictlySortedBy};
 ghost use Rattle.std.specs.Ordering.{nat_cmp};
 ghost use Rattle.std.specs.Map.{keys_of};
-ghost use Rattle.colour_meaning.specs.Interference.{has, neighbours_of, IsInterference};
+ghost use Rattle.pred_colour_meaning.specs.Interference.{has, neighbours_of, IsInterference};
 ghost use Rattle.pred_colour.specs.Entities.{preds_of};
 ghost use Rattle.pred_colour.specs.GraphRows.{pred_at, row_at, stands_in, others, graph_of, AreBelow, AreRows};
 ghost use Rattle.pred_colour.specs.Turns.{turn_of};
@@ -35,7 +35,7 @@ pub struct Graph {
 }
 
 impl Model for Graph {
-    ghost use Rattle.colour_meaning.specs.Interference.{Graph as GraphOf};
+    ghost use Rattle.pred_colour_meaning.specs.Interference.{Graph as GraphOf};
     ghost use Rattle.pred_colour.specs.GraphRows.{graph_of, AreRows};
 
     ghost Value = { GraphOf };

@@ -4,7 +4,7 @@ ghost use Rattle.std.specs.Prelude.{◌≡◌, ◌<◌, ◌||◌, [], ℕ, nat_e
 ghost use Rattle.std.specs.List.{filter};
 ghost use Rattle.std.specs.List.Sorted.{IsStrictlySortedBy};
 ghost use Rattle.std.specs.Ordering.{nat_cmp};
-ghost use Rattle.colour_meaning.specs.Interference.{has};
+ghost use Rattle.pred_colour_meaning.specs.Interference.{has};
 ghost use Rattle.pred_colour.specs.GraphRows.{pred_at, stands_in, AreBelow};
 
 use bit_sets::BitSet;

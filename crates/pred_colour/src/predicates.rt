@@ -4,7 +4,7 @@ ghost use Rattle.std.specs.Prelude.{◌≡◌, ℕ, map, IfOk};
 ghost use Rattle.std.specs.List.{list_any, flat_map};
 ghost use Rattle.std.specs.List.Sorted.{IsStrictlySortedBy};
 ghost use Rattle.std.specs.Ordering.{nat_cmp};
-ghost use Rattle.colour_meaning.specs.Interference.{has};
+ghost use Rattle.pred_colour_meaning.specs.Interference.{has};
 ghost use Rattle.pred_colour.specs.Entities.{preds_of};
 
 use crate::graph::EntityPreds;

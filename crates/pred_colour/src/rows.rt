@@ -4,7 +4,7 @@ ghost use Rattle.std.specs.Prelude.{◌≡◌, ◌<◌, ◌&&◌, ◌||◌, ℕ,
 ghost use Rattle.std.specs.List.{list_any};
 ghost use Rattle.std.specs.List.Sorted.{IsStrictlySortedBy};
 ghost use Rattle.std.specs.Ordering.{nat_cmp};
-ghost use Rattle.colour_meaning.specs.Interference.{has};
+ghost use Rattle.pred_colour_meaning.specs.Interference.{has};
 ghost use Rattle.pred_colour.specs.Entities.{preds_of, are_joined};
 ghost use Rattle.pred_colour.specs.GraphRows.{pred_at, row_at, is_other, AreBelow, AreRows};
 

@@ -4,8 +4,8 @@ ghost use Rattle.std.specs.Prelude.{◌≡◌, ◌<◌, ℕ, map, IfOk, OnOk};
 ghost use Rattle.std.specs.List.Sorted.{IsStrictlySortedBy};
 ghost use Rattle.std.specs.Map.{keys_of};
 ghost use Rattle.bags.specs.Sort.{sort};
-ghost use Rattle.colour_meaning.specs.Interference.{has};
-ghost use Rattle.colour_meaning.specs.Colouring.{rank};
+ghost use Rattle.pred_colour_meaning.specs.Interference.{has};
+ghost use Rattle.pred_colour_meaning.specs.Colouring.{rank};
 ghost use Rattle.pred_colour.specs.Turns.{turn_order, pred_of};
 
 use crate::graph::Graph;

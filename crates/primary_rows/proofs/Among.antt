@@ -10,7 +10,7 @@ use Rattle.layout_meaning.specs.declared.value.Value.{Value}
 use Rattle.layout_meaning.specs.declared.value.Value.TheVariants.{One, Many}
 use Rattle.layout_meaning.specs.Side.{Pair, Item, Row, Rows, Entities, ValueLists, or_empty, rows_of, values_of, pair_items}
 use Rattle.layout_meaning.specs.Sound.{IsSoundList}
-use Rattle.bulk_meaning.specs.Appended.{named_by_value, named_by, named_in_rows, named_lists}
+use Rattle.layout_bulk_meaning.specs.Appended.{named_by_value, named_by, named_in_rows, named_lists}
 use Rattle.primary_rows.specs.Held.{HasList, IsThere, pair_count}
 use Rattle.primary_rows.proofs.Moved.{list-known}
 

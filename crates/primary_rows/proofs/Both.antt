@@ -5,8 +5,8 @@ use Rattle.layout_meaning.specs.Side.{Item, SideState}
 use Rattle.layout_meaning.specs.Sound.{IsSound, IsSoundList, KeepsTo}
 use Rattle.layout_meaning.specs.Columns.{ColumnsOf}
 use Rattle.layout_meaning.specs.Rows.{SideOf, KeepsToNames, name_in, columns_by}
-use Rattle.bulk_meaning.specs.Appended.{named_lists, appended, appended_side}
-use Rattle.bulk_meaning.proofs.Sides.{good, sound-appended, held-appended, keeps-appended}
+use Rattle.layout_bulk_meaning.specs.Appended.{named_lists, appended, appended_side}
+use Rattle.layout_bulk_meaning.proofs.Sides.{good, sound-appended, held-appended, keeps-appended}
 use Rattle.primary_rows.specs.Kept.{IsSide}
 
 pub good-later : (k : ColumnsOf) (t : SideState) (b : ℕ) → IsSide k t b → AllByRecursion IsSoundList (named_lists t.lists t.entities)

@@ -13,10 +13,10 @@ use Rattle.layout_meaning.specs.Sound.{IsSoundList, has_pred}
 use Rattle.layout_meaning.specs.Rows.{later, row_total}
 use Rattle.layout_meaning.proofs.Sums.{total-append}
 use Rattle.layout_meaning.specs.Lists.{ListsOf}
-use Rattle.bulk_meaning.specs.Appended.{lists_in, given_row, given_rows, lists_in_rows, given_entity, given_entities, named_in_rows, with_lists, IsAbove}
-use Rattle.bulk_meaning.proofs.Turns.{turn-same, turn-length}
-use Rattle.bulk_meaning.proofs.Sides.{has-rows, count-rows}
-use Rattle.bulk_meaning.proofs.Going.{Going, going-next, entry-last, above-first, above-next, sorted-next}
+use Rattle.layout_bulk_meaning.specs.Appended.{lists_in, given_row, given_rows, lists_in_rows, given_entity, given_entities, named_in_rows, with_lists, IsAbove}
+use Rattle.layout_bulk_meaning.proofs.Turns.{turn-same, turn-length}
+use Rattle.layout_bulk_meaning.proofs.Sides.{has-rows, count-rows}
+use Rattle.layout_bulk_meaning.proofs.Going.{Going, going-next, entry-last, above-first, above-next, sorted-next}
 use Rattle.primary_rows.specs.declared.cells.Pair as cells
 use Rattle.primary_rows.specs.Cells.{fits}
 use Rattle.primary_rows.specs.Counted.{count_in, ArePositive, spill_total, AreCounted}

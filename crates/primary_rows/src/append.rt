@@ -4,7 +4,7 @@ ghost use Rattle.std.specs.Prelude.{◌≡◌, ◌<◌, ◌+◌, ◌++◌, ◌^�
 ghost use Rattle.std.specs.List.{flat_map, AllByRecursion};
 ghost use Rattle.layout_meaning.specs.Lists.{with_list};
 ghost use Rattle.layout_meaning.specs.Sound.{IsSoundList};
-ghost use Rattle.bulk_meaning.specs.Appended.{given_value, given_pair, given_row, given_rows, given_entities, named_by_value, named_by, named_in_rows, named_lists, with_lists, IsAbove};
+ghost use Rattle.layout_bulk_meaning.specs.Appended.{given_value, given_pair, given_row, given_rows, given_entities, named_by_value, named_by, named_in_rows, named_lists, with_lists, IsAbove};
 ghost use Rattle.primary_rows.specs.Cells.{pair_of, fits, is_small};
 
 use crate::cells::{Pair, Row, filled, value_in};

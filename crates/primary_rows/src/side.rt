@@ -16,7 +16,7 @@ ghost use Rattle.layout_meaning.specs.Sound.{IsSound};
 ghost use Rattle.layout_meaning.specs.Rows.{numbered_rows, IsCountOf, is_spilled, items_of, row_total, placed_in, taken_from, KeepsToNames, name_in};
 ghost use Rattle.value_lists.specs.Answers.{put_of, HasNumber};
 ghost use Rattle.primary_rows.specs.Answers.{took_of};
-ghost use Rattle.bulk_meaning.specs.Appended.{appended_side, IsAbove};
+ghost use Rattle.layout_bulk_meaning.specs.Appended.{appended_side, IsAbove};
 
 use crate::table::Table;
 use crate::views::RowView;

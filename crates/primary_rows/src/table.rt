@@ -17,7 +17,7 @@ ghost use Rattle.primary_rows.specs.Counted.{count_in};
 ghost use Rattle.primary_rows.specs.Held.{IsThere, pair_count};
 ghost use Rattle.std.specs.List.{AllByRecursion};
 ghost use Rattle.layout_meaning.specs.Sound.{IsSoundList};
-ghost use Rattle.bulk_meaning.specs.Appended.{given_entities, named_lists, with_lists, IsAbove};
+ghost use Rattle.layout_bulk_meaning.specs.Appended.{given_entities, named_lists, with_lists, IsAbove};
 
 use crate::append::move_entities;
 use crate::cells::Pair;

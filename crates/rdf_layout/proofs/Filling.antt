@@ -12,18 +12,18 @@ use Rattle.layout_meaning.proofs.Changes.{next-placed}
 use Rattle.value_lists.specs.declared.lists.Put.{Put}
 use Rattle.value_lists.specs.declared.lists.Put.TheVariants.{Added}
 use Rattle.value_lists.specs.Answers.{put_of}
-use Rattle.standing_meaning.specs.Dictionary.{IsTriple}
-use Rattle.standing_meaning.specs.Schemas.{LayoutOf}
-use Rattle.standing_meaning.specs.Sides.{AreSides, turned}
-use Rattle.standing_meaning.specs.Stored.{StoreOf, sides_of, stored_triples}
-use Rattle.standing_meaning.specs.Changes.{with_terms, item_in, is_stored, stored_in}
-use Rattle.standing_meaning.proofs.Changed.{store-in, triples-in}
-use Rattle.store_laws.proofs.Same.{stored-fits, there-unchanged}
-use Rattle.list_order.proofs.Rising.{none-in_order, placed-in_order}
+use Rattle.layout_standing_meaning.specs.Dictionary.{IsTriple}
+use Rattle.layout_standing_meaning.specs.Schemas.{LayoutOf}
+use Rattle.layout_standing_meaning.specs.Sides.{AreSides, turned}
+use Rattle.layout_standing_meaning.specs.Stored.{StoreOf, sides_of, stored_triples}
+use Rattle.layout_standing_meaning.specs.Changes.{with_terms, item_in, is_stored, stored_in}
+use Rattle.layout_standing_meaning.proofs.Changed.{store-in, triples-in}
+use Rattle.layout_store_laws.proofs.Same.{stored-fits, there-unchanged}
+use Rattle.layout_list_laws.proofs.Rising.{none-in_order, placed-in_order}
 use Rattle.rdf_layout.specs.declared.refusal.StoreRefusal.{StoreRefusal}
 use Rattle.rdf_layout.specs.declared.refusal.StoreRefusal.TheVariants.{Triples, Terms, Lists, NoMemory}
 use Rattle.rdf_layout.specs.Refused.{Refuses, HasRoom}
-use Rattle.bulk_laws.specs.BulkStore.{each_once, terms_of}
+use Rattle.layout_bulk_laws.specs.BulkStore.{each_once, terms_of}
 use Rattle.rdf_layout.specs.Bulk.{empty_sides, empty_store, put_in_turn, refusal_behind, or_later, refusal_from, ArePutInTurn}
 
 -- no triples

@@ -14,27 +14,27 @@ use Rattle.layout_meaning.proofs.Candidates.{AreCandidates, candidates, first-be
 use Rattle.layout_meaning.proofs.Changes.{next-placed}
 use Rattle.value_lists.specs.declared.lists.Put.TheVariants.{Added}
 use Rattle.value_lists.specs.Answers.{put_of}
-use Rattle.triple_ids.specs.Noted.{HaveIds}
-use Rattle.triple_sides.specs.Items.{item_of}
-use Rattle.triple_sides.specs.declared.sides.IdTriple.{IdTriple}
-use Rattle.standing_meaning.specs.Dictionary.{IsTriple}
-use Rattle.standing_meaning.specs.Schemas.{LayoutOf}
-use Rattle.standing_meaning.specs.Sides.{SidesOf, AreSides, turned}
-use Rattle.standing_meaning.specs.Stored.{StoreOf, IsStore, IsItem, IsIdIn, sides_of, layout_of, triple_by, stored_triples, text_of_id}
-use Rattle.standing_meaning.specs.Changes.{with_terms, item_in, store_of, is_stored, stored_in}
-use Rattle.standing_meaning.proofs.Steps.{count-held, each-bag_item, sides-empty}
-use Rattle.standing_meaning.proofs.Terms.{term_at-id}
-use Rattle.standing_meaning.proofs.Present.{triple-there, terms-noted}
-use Rattle.standing_meaning.proofs.Growth.{placed-bag}
-use Rattle.standing_meaning.proofs.Changed.{stored-grown, held-in}
-use Rattle.store_laws.proofs.Same.{there-unchanged}
-use Rattle.list_order.specs.InOrder.{AreInOrder}
-use Rattle.bulk_meaning.specs.Bulk.{bulk_side}
-use Rattle.bulk_laws.specs.BulkStore.{each_once, terms_of, bulk_items, bulk_sides, bulk_store, HaveCandidates}
-use Rattle.bulk_laws.specs.BulkLaws.{BulksAreStores, BulksHoldTheirItems, BulksAreInOrder}
-use Rattle.columns_meaning.specs.BulkColours.{AreColumnsFor}
-use Rattle.columns_meaning.specs.Layouts.{IsLayoutFor}
-use Rattle.columns_meaning.specs.Layouts.{ChoiceOf}
+use Rattle.layout_ids.specs.Noted.{HaveIds}
+use Rattle.layout_sides.specs.Items.{item_of}
+use Rattle.layout_sides.specs.declared.sides.IdTriple.{IdTriple}
+use Rattle.layout_standing_meaning.specs.Dictionary.{IsTriple}
+use Rattle.layout_standing_meaning.specs.Schemas.{LayoutOf}
+use Rattle.layout_standing_meaning.specs.Sides.{SidesOf, AreSides, turned}
+use Rattle.layout_standing_meaning.specs.Stored.{StoreOf, IsStore, IsItem, IsIdIn, sides_of, layout_of, triple_by, stored_triples, text_of_id}
+use Rattle.layout_standing_meaning.specs.Changes.{with_terms, item_in, store_of, is_stored, stored_in}
+use Rattle.layout_standing_meaning.proofs.Steps.{count-held, each-bag_item, sides-empty}
+use Rattle.layout_standing_meaning.proofs.Terms.{term_at-id}
+use Rattle.layout_standing_meaning.proofs.Present.{triple-there, terms-noted}
+use Rattle.layout_standing_meaning.proofs.Growth.{placed-bag}
+use Rattle.layout_standing_meaning.proofs.Changed.{stored-grown, held-in}
+use Rattle.layout_store_laws.proofs.Same.{there-unchanged}
+use Rattle.layout_list_laws.specs.InOrder.{AreInOrder}
+use Rattle.layout_bulk_meaning.specs.Bulk.{bulk_side}
+use Rattle.layout_bulk_laws.specs.BulkStore.{each_once, terms_of, bulk_items, bulk_sides, bulk_store, HaveCandidates}
+use Rattle.layout_bulk_laws.specs.BulkLaws.{BulksAreStores, BulksHoldTheirItems, BulksAreInOrder}
+use Rattle.layout_columns_meaning.specs.BulkColours.{AreColumnsFor}
+use Rattle.layout_columns_meaning.specs.Layouts.{IsLayoutFor}
+use Rattle.layout_columns_meaning.specs.Layouts.{ChoiceOf}
 use Rattle.shredder.specs.declared.bulk.Placed.{Placed}
 use Rattle.shredder.specs.Items as placed
 use Rattle.rdf_layout.specs.declared.refusal.StoreRefusal.{StoreRefusal}

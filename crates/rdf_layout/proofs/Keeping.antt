@@ -3,12 +3,12 @@ use Rattle.std.proofs.Common.{◌≡◌, ◌∷◌, if◌then◌else◌, Bool, t
 use Rattle.std.specs.Prelude.{IfOk, OnOk, OnErr}
 use Rattle.bags.specs.Bag.{SameBag}
 use Rattle.rdf_meaning.specs.Terms.{RdfTriple}
-use Rattle.standing_meaning.specs.Dictionary.{IsTriple}
-use Rattle.standing_meaning.specs.Stored.{StoreOf, IsStore, sides_of, stored_triples}
-use Rattle.standing_meaning.specs.Changes.{with_terms, item_in, is_stored, stored_in, taken_out, IsRefused}
-use Rattle.standing_meaning.proofs.Changed.{triples-in, triples-out}
-use Rattle.list_order.specs.InOrder.{AreInOrder}
-use Rattle.store_laws.proofs.Same.{there-unchanged, absent-unchanged}
+use Rattle.layout_standing_meaning.specs.Dictionary.{IsTriple}
+use Rattle.layout_standing_meaning.specs.Stored.{StoreOf, IsStore, sides_of, stored_triples}
+use Rattle.layout_standing_meaning.specs.Changes.{with_terms, item_in, is_stored, stored_in, taken_out, IsRefused}
+use Rattle.layout_standing_meaning.proofs.Changed.{triples-in, triples-out}
+use Rattle.layout_list_laws.specs.InOrder.{AreInOrder}
+use Rattle.layout_store_laws.proofs.Same.{there-unchanged, absent-unchanged}
 use Rattle.value_lists.specs.declared.lists.Put.{Put}
 use Rattle.value_lists.specs.declared.lists.Put.TheVariants.{Added, There}
 use Rattle.value_lists.specs.Answers.{put_of}
@@ -16,7 +16,7 @@ use Rattle.primary_rows.specs.declared.side.Took.{Took}
 use Rattle.primary_rows.specs.declared.side.Took.TheVariants.{Absent}
 use Rattle.primary_rows.specs.Answers.{took_of}
 use Rattle.rdf_layout.specs.declared.refusal.StoreRefusal.{StoreRefusal}
-use Rattle.list_order.proofs.Rising.{placed-in_order, taken-in_order, before-in_order}
+use Rattle.layout_list_laws.proofs.Rising.{placed-in_order, taken-in_order, before-in_order}
 
 -- the lists stay in order
 stored-in_order : (s new : StoreOf) (t : RdfTriple) → new ≡ stored_in s t → AreInOrder (sides_of s) → AreInOrder (sides_of new)

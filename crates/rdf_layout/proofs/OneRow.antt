@@ -9,23 +9,23 @@ use Rattle.rdf_meaning.specs.Terms.{RdfTerm, is_empty, is_term, can_be_predicate
 use Rattle.layout_meaning.specs.Columns.{ColumnsOf}
 use Rattle.layout_meaning.specs.Side.{Item, items, rows_of}
 use Rattle.layout_meaning.specs.Rows.{SideOf}
-use Rattle.colour_meaning.specs.Interference.{has}
-use Rattle.standing_meaning.specs.Dictionary.{IsTerm, id_of, entries_of}
-use Rattle.standing_meaning.specs.Sides.{turned}
-use Rattle.standing_meaning.specs.Stored.{StoreOf, IsStore, IsItem, IsIdIn, term_at, text_of_id}
-use Rattle.standing_meaning.specs.Changes.{store_of}
-use Rattle.standing_meaning.proofs.Steps.{items-once, each-bag_item}
-use Rattle.standing_meaning.proofs.Terms.{term_at-id, term_at-form}
+use Rattle.pred_colour_meaning.specs.Interference.{has}
+use Rattle.layout_standing_meaning.specs.Dictionary.{IsTerm, id_of, entries_of}
+use Rattle.layout_standing_meaning.specs.Sides.{turned}
+use Rattle.layout_standing_meaning.specs.Stored.{StoreOf, IsStore, IsItem, IsIdIn, term_at, text_of_id}
+use Rattle.layout_standing_meaning.specs.Changes.{store_of}
+use Rattle.layout_standing_meaning.proofs.Steps.{items-once, each-bag_item}
+use Rattle.layout_standing_meaning.proofs.Terms.{term_at-id, term_at-form}
 use Rattle.shredder.specs.declared.bulk.Placed.{Placed}
 use Rattle.shredder.specs.Items as placed
-use Rattle.bulk_meaning.specs.Bulk.{bulk_side}
-use Rattle.bulk_laws.specs.BulkStore.{HaveCandidates}
-use Rattle.bulk_laws.proofs.Placing.{AreApart, apart-same}
-use Rattle.bulk_laws.proofs.Bulks.{bulk-bag}
-use Rattle.columns_meaning.specs.BulkColours.{preds_under, AreBulkColours, AreColumnsFor}
-use Rattle.bulk_columns.specs.Entities.{is_pair}
-use Rattle.bulk_columns.proofs.ByEntity.{under_is}
-use Rattle.coloured_rows.specs.OneRow.{TellApart, ColouredEntitiesHaveOneRow}
+use Rattle.layout_bulk_meaning.specs.Bulk.{bulk_side}
+use Rattle.layout_bulk_laws.specs.BulkStore.{HaveCandidates}
+use Rattle.layout_bulk_laws.proofs.Placing.{AreApart, apart-same}
+use Rattle.layout_bulk_laws.proofs.Bulks.{bulk-bag}
+use Rattle.layout_columns_meaning.specs.BulkColours.{preds_under, AreBulkColours, AreColumnsFor}
+use Rattle.layout_columns.specs.Entities.{is_pair}
+use Rattle.layout_columns.proofs.ByEntity.{under_is}
+use Rattle.layout_coloured_laws.specs.OneRow.{TellApart, ColouredEntitiesHaveOneRow}
 use Rattle.rdf_layout.specs.Gathered.{AreStored, turned_placed}
 use Rattle.rdf_layout.specs.OneRow.{KnownHaveOneRow, ColouredHaveOneRow}
 use Rattle.rdf_layout.proofs.Found.{turned-items}

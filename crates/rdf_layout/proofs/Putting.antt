@@ -8,27 +8,27 @@ use Rattle.rdf_meaning.specs.Terms.{RdfTerm, RdfTriple, same_term}
 use Rattle.rdf_meaning.specs.TermLaws.{same_term-is}
 use Rattle.layout_meaning.specs.Side.{Item, items, is_held}
 use Rattle.term_book.specs.Book.{HasId}
-use Rattle.triple_sides.specs.Items.{item_of}
-use Rattle.triple_sides.specs.declared.sides.IdTriple.{IdTriple}
-use Rattle.standing_meaning.specs.Dictionary.{IsTriple, id_of, has_term, entries_of}
-use Rattle.standing_meaning.specs.Sides.{SidesOf, both_placed, both_taken}
-use Rattle.standing_meaning.specs.Stored.{StoreOf, IsStore, sides_of, triple_by, stored_triples}
-use Rattle.standing_meaning.specs.Changes.{with_terms, item_in, store_of, is_stored, stored_in, taken_out}
-use Rattle.standing_meaning.proofs.Terms.{id-numbered}
-use Rattle.standing_meaning.proofs.Present.{stored-held, held-terms}
-use Rattle.standing_meaning.proofs.Changed.{held-in}
-use Rattle.standing_meaning.proofs.Growth.{grown-triple}
-use Rattle.standing_meaning.proofs.Steps.{both-held, both-free}
+use Rattle.layout_sides.specs.Items.{item_of}
+use Rattle.layout_sides.specs.declared.sides.IdTriple.{IdTriple}
+use Rattle.layout_standing_meaning.specs.Dictionary.{IsTriple, id_of, has_term, entries_of}
+use Rattle.layout_standing_meaning.specs.Sides.{SidesOf, both_placed, both_taken}
+use Rattle.layout_standing_meaning.specs.Stored.{StoreOf, IsStore, sides_of, triple_by, stored_triples}
+use Rattle.layout_standing_meaning.specs.Changes.{with_terms, item_in, store_of, is_stored, stored_in, taken_out}
+use Rattle.layout_standing_meaning.proofs.Terms.{id-numbered}
+use Rattle.layout_standing_meaning.proofs.Present.{stored-held, held-terms}
+use Rattle.layout_standing_meaning.proofs.Changed.{held-in}
+use Rattle.layout_standing_meaning.proofs.Growth.{grown-triple}
+use Rattle.layout_standing_meaning.proofs.Steps.{both-held, both-free}
 use Rattle.term_book.specs.declared.refusal.BookRefusal.{BookRefusal}
 use Rattle.term_book.specs.declared.refusal.BookRefusal.TheVariants as book
 use Rattle.primary_rows.specs.declared.side.SideRefusal.{SideRefusal}
 use Rattle.primary_rows.specs.declared.side.SideRefusal.TheVariants as of
-use Rattle.store_laws.proofs.Same.{known-term, stored-fits}
+use Rattle.layout_store_laws.proofs.Same.{known-term, stored-fits}
 use Rattle.rdf_layout.specs.declared.refusal.StoreRefusal.{StoreRefusal}
 use Rattle.rdf_layout.specs.declared.refusal.StoreRefusal.TheVariants.{Triples, Terms, Lists, NoMemory}
 use Rattle.rdf_layout.specs.Refused.{Refuses, PassesLists, of_book, of_side}
 use Rattle.std.proofs.Common.{nat_le}
-use Rattle.triple_ids.specs.Noted.{HaveIds, LacksTerm}
+use Rattle.layout_ids.specs.Noted.{HaveIds, LacksTerm}
 
 id-is : (terms : List RdfTerm) (t : RdfTerm) (n : ℕ) → IsDistinct same_term terms → HasId terms t n → n ≡ id_of (entries_of terms) t
 id-is terms t n d h = (let a = h.0 in let k : 1 + (n - 1) ≡ n = omega arith in sym (id-numbered 1 (n - 1) t terms d h.1 ∙ k))

@@ -3,13 +3,13 @@ use Rattle.std.specs.Prelude.{◌≡◌, ◌≤◌, nat_le, nat_lt, if◌then◌
 use Rattle.std.specs.List.{list_any}
 use Rattle.bags.specs.Bag.{SameBag}
 use Rattle.rdf_meaning.specs.Terms.{RdfTriple, same_triple}
-use Rattle.standing_meaning.specs.Schemas.{LayoutOf}
-use Rattle.standing_meaning.specs.Sides.{SidesOf}
-use Rattle.standing_meaning.specs.Stored.{StoreOf, IsStore, sides_of, stored_triples}
-use Rattle.standing_meaning.specs.Changes.{with_terms, stored_in, store_of}
-use Rattle.list_order.specs.InOrder.{AreInOrder}
-use Rattle.bulk_laws.specs.BulkStore.{each_once, terms_of}
-use Rattle.bulk_meaning.specs.Bulk.{empty_side}
+use Rattle.layout_standing_meaning.specs.Schemas.{LayoutOf}
+use Rattle.layout_standing_meaning.specs.Sides.{SidesOf}
+use Rattle.layout_standing_meaning.specs.Stored.{StoreOf, IsStore, sides_of, stored_triples}
+use Rattle.layout_standing_meaning.specs.Changes.{with_terms, stored_in, store_of}
+use Rattle.layout_list_laws.specs.InOrder.{AreInOrder}
+use Rattle.layout_bulk_laws.specs.BulkStore.{each_once, terms_of}
+use Rattle.layout_bulk_meaning.specs.Bulk.{empty_side}
 use Rattle.rdf_layout.specs.declared.refusal.StoreRefusal.{StoreRefusal}
 use Rattle.rdf_layout.specs.declared.refusal.StoreRefusal.TheVariants.{Triples, Terms}
 

@@ -4,9 +4,9 @@ use Rattle.std.specs.List.{list_any}
 use Rattle.bags.specs.Bag.{SameBag}
 use Rattle.rdf_meaning.specs.Terms.{RdfTerm, RdfTriple}
 use Rattle.layout_meaning.specs.Side.{Item, items}
-use Rattle.standing_meaning.specs.Stored.{StoreOf, IsStore, triple_by, stored_triples}
-use Rattle.standing_meaning.specs.Changes.{with_terms, item_in, is_stored}
-use Rattle.bulk_laws.specs.BulkStore.{each_once}
+use Rattle.layout_standing_meaning.specs.Stored.{StoreOf, IsStore, triple_by, stored_triples}
+use Rattle.layout_standing_meaning.specs.Changes.{with_terms, item_in, is_stored}
+use Rattle.layout_bulk_laws.specs.BulkStore.{each_once}
 use Rattle.shredder.specs.declared.bulk.Placed.{Placed}
 use Rattle.rdf_layout.specs.Bulk.{ArePutInTurn}
 

@@ -4,9 +4,9 @@ use Rattle.rdf_meaning.specs.Terms.{RdfTerm}
 use Rattle.layout_meaning.specs.Columns.{known_column}
 use Rattle.layout_meaning.specs.Side.{items, rows_of}
 use Rattle.layout_meaning.specs.Rows.{SideOf}
-use Rattle.colour_meaning.specs.Interference.{has}
-use Rattle.standing_meaning.specs.Stored.{StoreOf, text_of_id}
-use Rattle.columns_meaning.specs.BulkColours.{preds_under}
+use Rattle.pred_colour_meaning.specs.Interference.{has}
+use Rattle.layout_standing_meaning.specs.Stored.{StoreOf, text_of_id}
+use Rattle.layout_columns_meaning.specs.BulkColours.{preds_under}
 
 -- an entity whose predicates all have a known column has its first row alone
 abbrev pub KnownHaveOneRow : List RdfTerm → SideOf → Type 0

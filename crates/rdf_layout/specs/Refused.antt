@@ -5,8 +5,8 @@ use Rattle.primary_rows.specs.declared.side.SideRefusal.{SideRefusal}
 use Rattle.primary_rows.specs.declared.side.SideRefusal.TheVariants as of
 use Rattle.term_book.specs.declared.refusal.BookRefusal.{BookRefusal}
 use Rattle.term_book.specs.declared.refusal.BookRefusal.TheVariants as book
-use Rattle.standing_meaning.specs.Stored.{StoreOf, stored_triples}
-use Rattle.standing_meaning.specs.Changes.{with_terms, is_stored, stored_in}
+use Rattle.layout_standing_meaning.specs.Stored.{StoreOf, stored_triples}
+use Rattle.layout_standing_meaning.specs.Changes.{with_terms, is_stored, stored_in}
 use Rattle.rdf_layout.specs.declared.refusal.StoreRefusal.{StoreRefusal}
 use Rattle.rdf_layout.specs.declared.refusal.StoreRefusal.TheVariants.{Triples, Terms, Lists, NoMemory}
 

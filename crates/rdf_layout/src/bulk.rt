@@ -3,28 +3,28 @@
 ghost use Rattle.std.specs.Prelude.{◌≡◌, true, map, IfOk};
 ghost use Rattle.std.specs.List.{AllByRecursion};
 ghost use Rattle.bags.specs.Bag.{SameBag};
-ghost use Rattle.list_order.specs.InOrder.{AreInOrder};
-ghost use Rattle.standing_meaning.specs.Sides.{turned};
-ghost use Rattle.standing_meaning.specs.Stored.{IsIdIn, IsStore, layout_of, triple_by, stored_triples, text_of_id};
-ghost use Rattle.standing_meaning.specs.Changes.{store_of};
-ghost use Rattle.bulk_meaning.specs.Bulk.{bulk_side};
-ghost use Rattle.columns_meaning.specs.BulkColours.{AreColumnsFor};
-ghost use Rattle.columns_meaning.specs.Layouts.{IsLayoutFor};
-ghost use Rattle.bulk_laws.specs.BulkStore.{bulk_sides, HaveCandidates};
+ghost use Rattle.layout_list_laws.specs.InOrder.{AreInOrder};
+ghost use Rattle.layout_standing_meaning.specs.Sides.{turned};
+ghost use Rattle.layout_standing_meaning.specs.Stored.{IsIdIn, IsStore, layout_of, triple_by, stored_triples, text_of_id};
+ghost use Rattle.layout_standing_meaning.specs.Changes.{store_of};
+ghost use Rattle.layout_bulk_meaning.specs.Bulk.{bulk_side};
+ghost use Rattle.layout_columns_meaning.specs.BulkColours.{AreColumnsFor};
+ghost use Rattle.layout_columns_meaning.specs.Layouts.{IsLayoutFor};
+ghost use Rattle.layout_bulk_laws.specs.BulkStore.{bulk_sides, HaveCandidates};
 ghost use Rattle.shredder.specs.Items.{item_of};
 ghost use Rattle.rdf_layout.specs.Gathered.{AreStored, turned_placed};
 ghost use Rattle.rdf_layout.specs.OneRow.{ColouredHaveOneRow};
 
-use bulk_columns::columns_for;
-use bulk_laws::bulks_are_stores;
-use coloured_rows::coloured_entities_have_one_row;
+use layout_bulk_laws::bulks_are_stores;
 use layout_choice::LayoutChoice;
+use layout_coloured_laws::coloured_entities_have_one_row;
+use layout_columns::columns_for;
+use layout_sides::TripleSides;
 use pred_columns::Columns;
 use primary_rows::Side;
 use shredder::{Placed, shred};
 use std::alloc::{AllocError, Global};
 use term_book::TermBook;
-use triple_sides::TripleSides;
 
 fn turned(placed: Placed) -> Placed
     ensures { result ≡ turned_placed placed }

@@ -3,15 +3,15 @@
 ghost use Rattle.std.specs.Prelude.{◌≡◌, IfOk};
 ghost use Rattle.std.specs.List.{IsDistinct};
 ghost use Rattle.rdf_meaning.specs.Terms.{same_term};
-ghost use Rattle.standing_meaning.specs.Changes.{store_of};
-ghost use Rattle.facts_meaning.specs.Facts.{store_facts};
+ghost use Rattle.layout_standing_meaning.specs.Changes.{store_of};
+ghost use Rattle.layout_facts_meaning.specs.Facts.{store_facts};
 
+use layout_facts::spilled_among;
+use layout_sides::TripleSides;
 use pred_columns::{LayoutFacts, Spilled};
 use rdf_terms::Term;
 use std::alloc::{AllocError, Global};
-use store_facts::spilled_among;
 use term_book::TermBook;
-use triple_sides::TripleSides;
 
 /// The columns of both sides, and which of given predicates are spilled on each.
 pub(crate) fn facts_of(

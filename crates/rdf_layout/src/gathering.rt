@@ -1,11 +1,11 @@
 //! Triples whose items are gathered, to be placed at once.
 
 ghost use Rattle.std.specs.Prelude.{◌≡◌, ◌≢◌, ◌≤◌, [], length, IfErr, OnOk, None, Some};
-ghost use Rattle.standing_meaning.specs.Dictionary.{IsTriple};
-ghost use Rattle.standing_meaning.specs.Stored.{StoreOf};
-ghost use Rattle.standing_meaning.specs.Changes.{with_terms};
+ghost use Rattle.layout_standing_meaning.specs.Dictionary.{IsTriple};
+ghost use Rattle.layout_standing_meaning.specs.Stored.{StoreOf};
+ghost use Rattle.layout_standing_meaning.specs.Changes.{with_terms};
 ghost use Rattle.shredder.specs.Items.{item_of};
-ghost use Rattle.triple_sides.specs.Items.{item_of as item_of_ids};
+ghost use Rattle.layout_sides.specs.Items.{item_of as item_of_ids};
 ghost use Rattle.rdf_layout.specs.Refused.{Refuses};
 ghost use Rattle.rdf_layout.specs.Bulk.{refusal_from};
 ghost use Rattle.rdf_layout.specs.Gathered.{AreItemsOf, Gathers, HasSpace, with_found};
@@ -13,12 +13,12 @@ ghost use Rattle.rdf_layout.specs.Gathered.{AreItemsOf, Gathers, HasSpace, with_
 use crate::item_set::ItemSet;
 use crate::noted::noted;
 use crate::refusal::{MOST_TRIPLES, StoreRefusal};
+use layout_ids::has_forms;
+use layout_sides::IdTriple;
 use rdf_terms::Triple;
 use shredder::Placed;
 use std::alloc::Global;
 use term_book::TermBook;
-use triple_ids::has_forms;
-use triple_sides::IdTriple;
 
 /// The item of a triple on the direct side.
 fn placed_of(ids: IdTriple) -> Placed

@@ -1,15 +1,15 @@
 //! Triples whose terms are noted.
 
 ghost use Rattle.std.specs.Prelude.{◌≡◌, ◌≢◌, ◌≤◌, ◌<◌, if◌then◌else◌, length, IfOk, IfErr, OnOk, OnErr};
-ghost use Rattle.standing_meaning.specs.Changes.{with_terms, AreSomeNoted};
-ghost use Rattle.triple_ids.specs.Noted.{HaveIds};
+ghost use Rattle.layout_standing_meaning.specs.Changes.{with_terms, AreSomeNoted};
+ghost use Rattle.layout_ids.specs.Noted.{HaveIds};
 
 use crate::refusal::{StoreRefusal, of_book};
+use layout_ids::note;
+use layout_sides::IdTriple;
 use rdf_terms::Triple;
 use std::alloc::Global;
 use term_book::TermBook;
-use triple_ids::note;
-use triple_sides::IdTriple;
 
 /// Gives ids to the terms of a triple. Where the dictionary would pass 4,000,000 terms, the refusal is Triples if as
 /// many triples are stored as may be, or else Terms.

@@ -12,7 +12,7 @@ pub struct SideStats {
 }
 
 impl Model for SideStats {
-    ghost use Rattle.stats_meaning.specs.Statistics.{SideStatsOf};
+    ghost use Rattle.layout_stats_meaning.specs.Statistics.{SideStatsOf};
 
     ghost Value = { SideStatsOf };
 
@@ -29,7 +29,7 @@ pub struct Stats {
 }
 
 impl Model for Stats {
-    ghost use Rattle.stats_meaning.specs.Statistics.{StatsOf};
+    ghost use Rattle.layout_stats_meaning.specs.Statistics.{StatsOf};
 
     ghost Value = { StatsOf };
 

@@ -3,19 +3,19 @@
 ghost use Rattle.std.specs.Prelude.{◌≡◌, ◌≤◌, length, IfOk, IfErr, OnOk, OnErr, Ok};
 ghost use Rattle.value_lists.specs.Answers.{put_of};
 ghost use Rattle.primary_rows.specs.Answers.{took_of};
-ghost use Rattle.standing_meaning.specs.Dictionary.{IsTriple};
-ghost use Rattle.standing_meaning.specs.Stored.{IsStore};
-ghost use Rattle.standing_meaning.specs.Changes.{store_of, is_stored, stored_in, taken_out, IsRefused};
+ghost use Rattle.layout_standing_meaning.specs.Dictionary.{IsTriple};
+ghost use Rattle.layout_standing_meaning.specs.Stored.{IsStore};
+ghost use Rattle.layout_standing_meaning.specs.Changes.{store_of, is_stored, stored_in, taken_out, IsRefused};
 ghost use Rattle.rdf_layout.specs.Refused.{Refuses, HasRoom};
 
 use crate::noted::noted;
 use crate::refusal::{MOST_TRIPLES, StoreRefusal};
+use layout_ids::{find, has_forms};
+use layout_sides::TripleSides;
 use primary_rows::Took;
 use rdf_terms::{Text, Triple};
 use std::alloc::Global;
 use term_book::TermBook;
-use triple_ids::{find, has_forms};
-use triple_sides::TripleSides;
 use value_lists::Put;
 
 /// The IRI of a triple's predicate.

@@ -4,17 +4,17 @@ ghost use Rattle.std.specs.Prelude.{◌≡◌, ◌≢◌, true, [], ◌∷◌, i
 ghost use Rattle.bags.specs.Bag.{SameBag};
 ghost use Rattle.value_lists.specs.Answers.{put_of};
 ghost use Rattle.primary_rows.specs.Answers.{took_of};
-ghost use Rattle.standing_meaning.specs.Contents.{side_contents, contents_of};
-ghost use Rattle.standing_meaning.specs.Standing.{StandsFor};
-ghost use Rattle.standing_meaning.specs.Stored.{IsStore, layout_of, tables_of, stored_triples};
-ghost use Rattle.standing_meaning.specs.Changes.{is_stored, stored_in, taken_out, IsRefused};
-ghost use Rattle.stats_meaning.specs.Statistics.{AreStats, AreSideStats};
-ghost use Rattle.facts_meaning.specs.Facts.{AreFacts, AreIds};
-ghost use Rattle.counts_meaning.specs.Counts.{AreCounts};
+ghost use Rattle.layout_standing_meaning.specs.Contents.{side_contents, contents_of};
+ghost use Rattle.layout_standing_meaning.specs.Standing.{StandsFor};
+ghost use Rattle.layout_standing_meaning.specs.Stored.{IsStore, layout_of, tables_of, stored_triples};
+ghost use Rattle.layout_standing_meaning.specs.Changes.{is_stored, stored_in, taken_out, IsRefused};
+ghost use Rattle.layout_stats_meaning.specs.Statistics.{AreStats, AreSideStats};
+ghost use Rattle.layout_facts_meaning.specs.Facts.{AreFacts, AreIds};
+ghost use Rattle.layout_counts_meaning.specs.Counts.{AreCounts};
 ghost use Rattle.layout_tables.specs.RowOrder.{StandInOrder};
 ghost use Rattle.rdf_layout.specs.Refused.{Refuses, HasRoom};
-ghost use Rattle.bulk_laws.specs.BulkStore.{each_once, terms_of, bulk_items, bulk_store};
-ghost use Rattle.columns_meaning.specs.Layouts.{IsLayoutFor};
+ghost use Rattle.layout_bulk_laws.specs.BulkStore.{each_once, terms_of, bulk_items, bulk_store};
+ghost use Rattle.layout_columns_meaning.specs.Layouts.{IsLayoutFor};
 ghost use Rattle.rdf_layout.specs.Bulk.{refusal_from};
 ghost use Rattle.rdf_layout.specs.OneRow.{ColouredHaveOneRow};
 
@@ -26,16 +26,16 @@ use crate::refusal::StoreRefusal;
 use crate::stats::{SideStats, Stats};
 use crate::steps::{put, take};
 use layout_choice::LayoutChoice;
+use layout_counts::{counts_of, stores_count};
+use layout_facts::{ids_of, stores_tell};
+use layout_sides::TripleSides;
 use layout_tables::{Tables, tables_of};
 use pred_columns::{Counts, LayoutFacts, QueryIds};
 use primary_rows::{Side, Took};
 use rdf_terms::{Term, Triple};
 use std::alloc::{AllocError, Global};
 use std::marker::Model;
-use store_counts::{counts_of, stores_count};
-use store_facts::{ids_of, stores_tell};
 use term_book::TermBook;
-use triple_sides::TripleSides;
 use value_lists::Put;
 
 /// A dictionary and two sides, which stand for a set of triples.
@@ -47,9 +47,9 @@ pub struct Store {
 
 impl Model for Store {
     ghost use Rattle.std.specs.Prelude.{length, ◌≤◌};
-    ghost use Rattle.list_order.specs.InOrder.{AreInOrder};
-    ghost use Rattle.standing_meaning.specs.Stored.{StoreOf, IsStore};
-    ghost use Rattle.standing_meaning.specs.Changes.{store_of};
+    ghost use Rattle.layout_list_laws.specs.InOrder.{AreInOrder};
+    ghost use Rattle.layout_standing_meaning.specs.Stored.{StoreOf, IsStore};
+    ghost use Rattle.layout_standing_meaning.specs.Changes.{store_of};
 
     ghost Value = { StoreOf };
 

@@ -2,8 +2,8 @@
 use Rattle.std.specs.Prelude.{ℕ, List, [], ◌++◌, codes, decimal}
 use Rattle.run_meaning.specs.declared.which.Which.{Which}
 use Rattle.run_meaning.specs.declared.which.Which.TheVariants.{File, Line, Query, Patterns, Variables, Groups, Blocks, Depth, Keys, Digits, Terms, Triples}
-use Rattle.fragment_meaning.specs.declared.word.Feature.{Feature}
-use Rattle.fragment_meaning.specs.declared.word.Feature.TheVariants as feature
+use Rattle.sparql_meaning.specs.declared.word.Feature.{Feature}
+use Rattle.sparql_meaning.specs.declared.word.Feature.TheVariants as feature
 use Rattle.run_meaning.specs.declared.fault.QueryFault.{QueryFault}
 use Rattle.run_meaning.specs.declared.fault.QueryFault.TheVariants as fault
 use Rattle.run_meaning.specs.declared.fault.SqlFault.{SqlFault}

@@ -1,6 +1,6 @@
 //! Why what was read isn't run.
 
-use fragment_meaning::Feature;
+use sparql_meaning::Feature;
 
 /// Why a text is no query of the fragment; places are in bytes, counted from 0.
 #[derive(Clone, Copy, Debug, PartialEq, Eq)]

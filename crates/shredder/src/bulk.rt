@@ -4,8 +4,8 @@ ghost use Rattle.std.specs.Prelude.{◌≡◌, ◌≤◌, length, map, IfOk, OnO
 ghost use Rattle.std.specs.List.{AllByRecursion};
 ghost use Rattle.bags.specs.Sort.{sort};
 ghost use Rattle.layout_meaning.specs.Rows.{placed_in};
-ghost use Rattle.standing_meaning.specs.Stored.{IsIdIn, text_of_id};
-ghost use Rattle.bulk_meaning.specs.Bulk.{by_entity, placed_all, bulk_side};
+ghost use Rattle.layout_standing_meaning.specs.Stored.{IsIdIn, text_of_id};
+ghost use Rattle.layout_bulk_meaning.specs.Bulk.{by_entity, placed_all, bulk_side};
 ghost use Rattle.shredder.specs.Items.{item_of, placed_order};
 
 use pred_columns::Columns;

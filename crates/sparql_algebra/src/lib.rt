@@ -2,11 +2,11 @@
 //! variables that every solution binds.
 #![tactic(auto)]
 
-pub use certain_variables::{LeafVars, certain};
-pub use query_constants::constants;
 pub use query_meaning::{
     CompareOp, Element, Group, Key, Modifiers, Pattern, Query, Slot, Syntax, TermTest, Tree,
     TruthExpr, ValueExpr, VarId,
 };
-pub use query_translation::translate;
-pub use variable_sets::VarSet;
+pub use sparql_certain::{LeafVars, certain};
+pub use sparql_constants::constants;
+pub use sparql_translation::translate;
+pub use sparql_variables::VarSet;

@@ -2,20 +2,20 @@
 use Rattle.std.proofs.Common.{ℕ, ◌≡◌, ◌≤◌, List, length, take, Option, None, Some, Ok, sym, ap, subst, ◌∙◌}
 use Rattle.std.specs.Option.{option_map}
 use Rattle.query_meaning.specs.declared.query.Syntax.{Syntax}
-use Rattle.fragment_meaning.specs.declared.token.Token.{Token}
-use Rattle.fragment_meaning.specs.Cut.{cut}
-use Rattle.fragment_grammar.specs.declared.lexeme.Lexeme.{Lexeme}
-use Rattle.fragment_grammar.specs.Grammar.{Query_, a_query, Written, Tree}
-use Rattle.fragment_queries.specs.declared.refusal.QueryRefusal.{QueryRefusal}
-use Rattle.fragment_queries.specs.Lexemes.{lexemes, names}
-use Rattle.fragment_queries.specs.Limits.{first_fault}
-use Rattle.fragment_queries.specs.Queries.{most_bytes, syntax_of, faulty_at}
-use Rattle.query_cursor.specs.Outcomes.{IsText, Rejects}
-use Rattle.query_cursor.specs.declared.refusal.Refusal.{Refusal}
-use Rattle.query_cursor.specs.declared.refusal.Refusal.TheVariants as inner
-use Rattle.query_faults.specs.declared.faults.FaultAt.{FaultAt}
-use Rattle.query_faults.specs.Faults.{fault_of, fault_at_of}
-use Rattle.query_refusals.specs.Outcomes.{read_front, refusal_by, ReadsTokens, Refuses, read_whole, read_faulty, read_broken}
+use Rattle.sparql_meaning.specs.declared.token.Token.{Token}
+use Rattle.sparql_meaning.specs.Cut.{cut}
+use Rattle.sparql_grammar_meaning.specs.declared.lexeme.Lexeme.{Lexeme}
+use Rattle.sparql_grammar_meaning.specs.Grammar.{Query_, a_query, Written, Tree}
+use Rattle.sparql_query_meaning.specs.declared.refusal.QueryRefusal.{QueryRefusal}
+use Rattle.sparql_query_meaning.specs.Lexemes.{lexemes, names}
+use Rattle.sparql_query_meaning.specs.Limits.{first_fault}
+use Rattle.sparql_query_meaning.specs.Queries.{most_bytes, syntax_of, faulty_at}
+use Rattle.sparql_cursor.specs.Outcomes.{IsText, Rejects}
+use Rattle.sparql_cursor.specs.declared.refusal.Refusal.{Refusal}
+use Rattle.sparql_cursor.specs.declared.refusal.Refusal.TheVariants as inner
+use Rattle.sparql_faults.specs.declared.faults.FaultAt.{FaultAt}
+use Rattle.sparql_faults.specs.Faults.{fault_of, fault_at_of}
+use Rattle.sparql_refusals.specs.Outcomes.{read_front, refusal_by, ReadsTokens, Refuses, read_whole, read_faulty, read_broken}
 
 no_fault : (ts : List Token) (o : Option FaultAt) → option_map fault_at_of o ≡ first_fault ts → o ≡ None → first_fault ts ≡ None
 no_fault ts o f e = sym f ∙ ap (λ (z : Option FaultAt). option_map fault_at_of z) e

@@ -2,12 +2,12 @@
 use Rattle.std.specs.Prelude.{◌≡◌, ℕ, List, refl}
 use Rattle.query_meaning.specs.declared.query.Syntax.{Syntax}
 use Rattle.query_meaning.specs.declared.query.Query.{Query}
-use Rattle.fragment_meaning.specs.Translation.{translated}
-use Rattle.fragment_queries.specs.declared.refusal.QueryRefusal.{QueryRefusal}
-use Rattle.fragment_queries.specs.declared.refusal.QueryRefusal.TheVariants as refusal
-use Rattle.fragment_queries.specs.Queries.{IsQuery}
-use Rattle.query_refusals.specs.Outcomes.{ReadsAs, Refuses, no_memory, refuses}
-use Rattle.query_refusals.specs.Laws.{queries_are_not_refused, query_read, query_only}
+use Rattle.sparql_meaning.specs.Translation.{translated}
+use Rattle.sparql_query_meaning.specs.declared.refusal.QueryRefusal.{QueryRefusal}
+use Rattle.sparql_query_meaning.specs.declared.refusal.QueryRefusal.TheVariants as refusal
+use Rattle.sparql_query_meaning.specs.Queries.{IsQuery}
+use Rattle.sparql_refusals.specs.Outcomes.{ReadsAs, Refuses, no_memory, refuses}
+use Rattle.sparql_refusals.specs.Laws.{queries_are_not_refused, query_read, query_only}
 
 -- the text is this query of the fragment, and no other
 pub record ReadsQuery (bytes : List ℕ) (q : Query) : Type 0 where

@@ -4,7 +4,7 @@
 mod queries;
 mod reading;
 
-pub use fragment_meaning::Feature;
-pub use fragment_queries::{QueryLimit, QueryRefusal};
 pub use queries::read_query;
 pub use reading::read_syntax;
+pub use sparql_meaning::Feature;
+pub use sparql_query_meaning::{QueryLimit, QueryRefusal};

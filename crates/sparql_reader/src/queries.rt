@@ -1,13 +1,13 @@
 //! A whole text, read as a query of the algebra.
 
 ghost use Rattle.std.specs.Prelude.{IfOk, IfErr};
-ghost use Rattle.query_refusals.specs.Outcomes.{Refuses};
+ghost use Rattle.sparql_refusals.specs.Outcomes.{Refuses};
 ghost use Rattle.sparql_reader.specs.Queries.{ReadsQuery, IsNoQuery};
 
 use crate::reading::read_syntax;
-use fragment_queries::QueryRefusal;
 use query_meaning::Query;
-use query_translation::translate;
+use sparql_query_meaning::QueryRefusal;
+use sparql_translation::translate;
 use std::alloc::Global;
 
 /// Reads the one query of the fragment that a text is (SPARQL 1.1 Query, sections 18.2 and 19.8, as far as the fragment goes). A

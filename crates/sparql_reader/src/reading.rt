@@ -1,19 +1,19 @@
 //! A whole text, read as a query.
 
 ghost use Rattle.std.specs.Prelude.{◌≡◌, ◌≤◌, length, IfOk, IfErr, Ok};
-ghost use Rattle.fragment_meaning.specs.Cut.{cut};
-ghost use Rattle.fragment_queries.specs.Queries.{most_bytes};
-ghost use Rattle.query_refusals.specs.Outcomes.{ReadsTokens, Refuses, ReadsAs};
+ghost use Rattle.sparql_meaning.specs.Cut.{cut};
+ghost use Rattle.sparql_query_meaning.specs.Queries.{most_bytes};
+ghost use Rattle.sparql_refusals.specs.Outcomes.{ReadsTokens, Refuses, ReadsAs};
 
-use fragment_meaning::Token;
-use fragment_queries::{QueryLimit, QueryRefusal};
-use query_cursor::Refusal;
-use query_faults::first_fault;
-use query_grammar::read_written;
-use query_lexemes::lexemes;
 use query_meaning::Syntax;
-use query_refusals::{faulty_at, read_front, refused};
-use query_syntax::syntax;
+use sparql_cursor::Refusal;
+use sparql_faults::first_fault;
+use sparql_grammar::read_written;
+use sparql_lexemes::lexemes;
+use sparql_meaning::Token;
+use sparql_query_meaning::{QueryLimit, QueryRefusal};
+use sparql_refusals::{faulty_at, read_front, refused};
+use sparql_syntax::syntax;
 use sparql_tokens::{TokenRefusal, tokens};
 use std::alloc::Global;
 
@@ -21,7 +21,7 @@ use std::alloc::Global;
 const MOST_BYTES: usize = 65_536;
 
 // The tokens of a text, read. The grammar goes before a fault at the same token, and no token behind the first fault counts.
-#[tactic(auto, using(query_refusals::specs::Outcomes::token_paths))]
+#[tactic(auto, using(sparql_refusals::specs::Outcomes::token_paths))]
 fn read_tokens(alloc: Global, bytes: &[u8], tokens: &[Token]) -> Result<Syntax, QueryRefusal>
     requires cut { cut bytes.now ≡ Ok tokens.now }
     requires short { length bytes.now ≤ most_bytes }
@@ -42,7 +42,7 @@ fn read_tokens(alloc: Global, bytes: &[u8], tokens: &[Token]) -> Result<Syntax, 
 }
 
 // A text within the limit of its bytes.
-#[tactic(auto, using(query_refusals::specs::Outcomes::text_paths))]
+#[tactic(auto, using(sparql_refusals::specs::Outcomes::text_paths))]
 fn read_short(alloc: Global, bytes: &[u8]) -> Result<Syntax, QueryRefusal>
     requires { length bytes.now ≤ most_bytes }
     ensures reads { IfOk result (λ s. ReadsAs bytes.now s) }
@@ -59,7 +59,7 @@ fn read_short(alloc: Global, bytes: &[u8]) -> Result<Syntax, QueryRefusal>
 /// names the first token with which the tokens begin no query of the grammar, or that is a name whose prefix isn't declared, or
 /// at which a limit is passed, in this order at one token; a text that is too long goes before all, and then a text that isn't
 /// cut into tokens.
-#[tactic(auto, using(query_refusals::specs::Outcomes::length_paths))]
+#[tactic(auto, using(sparql_refusals::specs::Outcomes::length_paths))]
 pub fn read_syntax(alloc: Global, bytes: &[u8]) -> Result<Syntax, QueryRefusal>
     ensures reads { IfOk result (λ s. ReadsAs bytes.now s) }
     ensures refuses { IfErr result (λ r. Refuses bytes.now r) }

@@ -2,10 +2,10 @@
 use Rattle.std.proofs.Common.{◌≡◌, ℕ, zero, suc, ◌+◌, ◌-◌, Bool, true, false, List, [], ◌∷◌, ◌++◌, length, drop, Option, Some, None, refl, sym, ap, ◌∙◌, arith, append_assoc, ◌==◌, if◌then◌else◌}
 use Rattle.std.proofs.lemmas.List.{append-nil}
 use Rattle.std.specs.Char.{encode_utf8}
-use Rattle.fragment_meaning.specs.declared.token.Quoting.{Quoting}
-use Rattle.fragment_meaning.specs.declared.token.Escape.{Escape}
-use Rattle.fragment_meaning.specs.declared.token.Body.{Body}
-use Rattle.fragment_meaning.specs.Tokens.{starts_with, closing, behind, body_from, escaped, escape_in, escape_chars, stands}
+use Rattle.sparql_meaning.specs.declared.token.Quoting.{Quoting}
+use Rattle.sparql_meaning.specs.declared.token.Escape.{Escape}
+use Rattle.sparql_meaning.specs.declared.token.Body.{Body}
+use Rattle.sparql_meaning.specs.Tokens.{starts_with, closing, behind, body_from, escaped, escape_in, escape_chars, stands}
 use Rattle.sparql_tokens.specs.Pieces.{piece, longer}
 
 behind_behind : (a b : List ℕ) (n m : ℕ) (x : Option Body) → behind (a ++ b) (n + m) x ≡ behind a n (behind b m x)

@@ -6,11 +6,11 @@ use Rattle.std.proofs.lemmas.Str.{length-encode, utf8_valid_len-IsUtf8, utf8_val
 use Rattle.std.specs.Str.{IsUtf8, chars}
 use Rattle.std.specs.Str.Lossy.{utf8_valid_len}
 use Rattle.std.specs.Char.{encode_utf8, len_utf8}
-use Rattle.fragment_meaning.specs.declared.token.Token.{Token}
-use Rattle.fragment_meaning.specs.declared.token.Found.{Found}
-use Rattle.fragment_meaning.specs.Classes.{is_blank, ends_line}
-use Rattle.fragment_meaning.specs.Tokens.{token_at}
-use Rattle.fragment_meaning.specs.Cut.{size, cut_from, cut_token, chars_left, first_then, token_from, cut, cut_sound, sound_front}
+use Rattle.sparql_meaning.specs.declared.token.Token.{Token}
+use Rattle.sparql_meaning.specs.declared.token.Found.{Found}
+use Rattle.sparql_meaning.specs.Classes.{is_blank, ends_line}
+use Rattle.sparql_meaning.specs.Tokens.{token_at}
+use Rattle.sparql_meaning.specs.Cut.{size, cut_from, cut_token, chars_left, first_then, token_from, cut, cut_sound, sound_front}
 use Rattle.sparql_tokens.specs.Pieces.{before, StartsToken, IsWithin}
 
 size_cons : (c : ℕ) (cs : List ℕ) → size (c ∷ cs) ≡ len_utf8 c + size cs

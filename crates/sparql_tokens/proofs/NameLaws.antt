@@ -1,7 +1,7 @@
 -- What stands of a name behind the place that a loop has come to.
 use Rattle.std.proofs.Common.{◌≡◌, ℕ, zero, suc, ◌+◌, ◌-◌, ◌≤◌, Bool, true, false, List, [], ◌∷◌, length, drop, Option, Some, None, refl, sym, ap, ◌∙◌, arith, zero-add, ◌==◌, if◌then◌else◌}
 use Rattle.std.proofs.lemmas.Bool.Decides.{nat_tests}
-use Rattle.fragment_meaning.specs.Tokens.{name_from, part_len, one_more, to_colon}
+use Rattle.sparql_meaning.specs.Tokens.{name_from, part_len, one_more, to_colon}
 use Rattle.sparql_tokens.specs.Table.{kept, more, goes_on}
 
 more_one : (n : ℕ) (x : Option ℕ) → more (n + 1) x ≡ more n (one_more x)

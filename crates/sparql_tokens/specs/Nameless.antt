@@ -2,7 +2,7 @@
 use Rattle.std.proofs.lemmas.Bool.{true≢false, false≢true}
 use Rattle.std.proofs.Common.{if◌then◌else◌, ◌==◌, ℕ, zero, suc, ◌+◌, ◌-◌, ◌≡◌, ◌≤◌, ◌<◌, ◌⊎◌, Bool, true, false, List, [], ◌∷◌, length, drop, Option, Some, None, refl, sym, ap, ◌∙◌, arith, inl, inr, nat_lt}
 use Rattle.std.proofs.lemmas.List.{length-drop}
-use Rattle.fragment_meaning.specs.Tokens.{to_colon, one_more}
+use Rattle.sparql_meaning.specs.Tokens.{to_colon, one_more}
 use Rattle.sparql_tokens.specs.Table.{goes_on}
 
 -- from none of so many of the first characters

@@ -1,13 +1,13 @@
 -- What the steps of the cutter say.
 use Rattle.std.specs.Prelude.{ℕ, ◌+◌, ◌==◌, ◌≡◌, ◌<◌, ◌≤◌, false, if◌then◌else◌, List, [], ◌∷◌, ◌++◌, Option, Some, None, Result, Ok, Err}
-use Rattle.fragment_meaning.specs.declared.token.Found.{Found}
-use Rattle.fragment_meaning.specs.declared.token.Token.{Token}
-use Rattle.fragment_meaning.specs.Classes.{is_blank}
+use Rattle.sparql_meaning.specs.declared.token.Found.{Found}
+use Rattle.sparql_meaning.specs.declared.token.Token.{Token}
+use Rattle.sparql_meaning.specs.Classes.{is_blank}
 use Rattle.sparql_tokens.specs.declared.cutting.TokenRefusal.{TokenRefusal}
 use Rattle.sparql_tokens.specs.declared.cutting.TokenRefusal.TheVariants as refusal
-use Rattle.fragment_meaning.specs.declared.token.Quoting.{Quoting}
-use Rattle.fragment_meaning.specs.declared.token.Escape.{Escape}
-use Rattle.fragment_meaning.specs.Tokens.{escape_in, stands}
+use Rattle.sparql_meaning.specs.declared.token.Quoting.{Quoting}
+use Rattle.sparql_meaning.specs.declared.token.Escape.{Escape}
+use Rattle.sparql_meaning.specs.Tokens.{escape_in, stands}
 
 abbrev pub longer : Option Escape → Option Escape
 longer None = None

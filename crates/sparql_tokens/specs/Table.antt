@@ -1,9 +1,9 @@
 -- What a row of the table of words says; the middle of a name.
 use Rattle.std.specs.Prelude.{ℕ, ◌+◌, Bool, not, ◌&&◌, ◌||◌, ◌==◌, if◌then◌else◌, List, Option, Some, None}
-use Rattle.fragment_meaning.specs.Classes.{is_part}
-use Rattle.fragment_meaning.specs.Tokens.{head}
+use Rattle.sparql_meaning.specs.Classes.{is_part}
+use Rattle.sparql_meaning.specs.Tokens.{head}
 use Rattle.sparql_tokens.specs.declared.words.Row.{Row}
-use Rattle.fragment_meaning.specs.Words.{SpelledWord, spelled}
+use Rattle.sparql_meaning.specs.Words.{SpelledWord, spelled}
 
 abbrev pub view : Row → SpelledWord
 view row = spelled row.capitals.now row.word

@@ -2,8 +2,8 @@
 
 ghost use Rattle.std.specs.Prelude.{◌≡◌};
 ghost use Rattle.rdf_meaning.specs.Characters as characters;
-ghost use Rattle.fragment_meaning.specs.Classes as classes;
-ghost use Rattle.fragment_meaning.specs.Tokens.{is_tag_part};
+ghost use Rattle.sparql_meaning.specs.Classes as classes;
+ghost use Rattle.sparql_meaning.specs.Tokens.{is_tag_part};
 
 fn is_between(low: u32, high: u32, c: char) -> bool
     ensures { result ≡ characters.is_between low high c }

@@ -1,14 +1,14 @@
 //! A text cut into its tokens.
 
 ghost use Rattle.std.specs.Prelude.{◌≡◌, ◌≤◌, ◌<◌, ◌+◌, ◌^◌, length, take, false, chars, IfOk, IfErr};
-ghost use Rattle.fragment_meaning.specs.Cut.{cut, cut_from, size, sound_front};
+ghost use Rattle.sparql_meaning.specs.Cut.{cut, cut_from, size, sound_front};
 ghost use Rattle.sparql_tokens.specs.Nameless.{IsEnd};
 ghost use Rattle.sparql_tokens.specs.Pieces.{IsBadCut, StartsToken};
 
 use crate::classes::{ends_line, is_blank};
 use crate::names::{nameless_left, nameless_still};
 use crate::place::token_at;
-use fragment_meaning::Token;
+use sparql_meaning::Token;
 use sqlite_items::Items;
 use std::alloc::{AllocError, Global};
 use std::str;
@@ -124,7 +124,7 @@ fn chars_of(alloc: Global, text: &str) -> Result<Vec<char>, AllocError>
 
 /// Cuts a text into its tokens, taking the longest token at each place. Blanks and comments stand
 /// between tokens (SPARQL 1.1 Query, section 19). What breaks UTF-8 is a bad place too.
-#[tactic(auto, unfolding(fragment_meaning::specs::Cut::cut))]
+#[tactic(auto, unfolding(sparql_meaning::specs::Cut::cut))]
 pub fn tokens(alloc: Global, bytes: &[u8]) -> Result<Items<Token>, TokenRefusal>
     ensures ok { IfOk result (λ ts. cut bytes.now ≡ Ok ts) }
     ensures err { IfErr result (IsBadCut (cut bytes.now)) }

@@ -1,12 +1,12 @@
 //! Escapes (SPARQL 1.1 Query, sections 19.2 and 19.8).
 
 ghost use Rattle.std.specs.Prelude.{◌≡◌, ◌≤◌, ◌<◌, length, IsTrue, IfSome, OnSome, IsSome};
-ghost use Rattle.fragment_meaning.specs.Classes.{is_hex};
-ghost use Rattle.fragment_meaning.specs.Tokens.{escape_at, escaped_len, hex_number, hex_value, scalar_escape, short_escape};
+ghost use Rattle.sparql_meaning.specs.Classes.{is_hex};
+ghost use Rattle.sparql_meaning.specs.Tokens.{escape_at, escaped_len, hex_number, hex_value, scalar_escape, short_escape};
 
 use crate::classes::{is_digit, is_hex, is_kept};
 use crate::runs::head;
-use fragment_meaning::Escape;
+use sparql_meaning::Escape;
 
 fn hex_value(c: char) -> u32
     requires { IsTrue (is_hex c) }
@@ -64,7 +64,7 @@ fn short_escape(c: char) -> char
 }
 
 /// What stands behind a backslash.
-#[tactic(auto, unfolding(fragment_meaning::specs::Tokens::escape_at))]
+#[tactic(auto, unfolding(sparql_meaning::specs::Tokens::escape_at))]
 pub(crate) fn escape_at(short: bool, chars: &[char]) -> Option<Escape>
     ensures value { result ≡ escape_at short chars.now }
     ensures within { IfSome result (λ e. e.chars ≤ length chars.now) }

@@ -13,4 +13,4 @@ mod runs;
 mod words;
 
 pub use cutting::{TokenRefusal, tokens};
-pub use fragment_meaning::{Feature, LanguageTag, Mark, Token, TokenKind, Word};
+pub use sparql_meaning::{Feature, LanguageTag, Mark, Token, TokenKind, Word};

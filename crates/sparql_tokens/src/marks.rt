@@ -1,11 +1,11 @@
 //! Marks.
 
 ghost use Rattle.std.specs.Prelude.{◌≡◌, length, IfSome, Some, None};
-ghost use Rattle.fragment_meaning.specs.Tokens.{head, mark_at, mark_of_one, mark_of_two};
+ghost use Rattle.sparql_meaning.specs.Tokens.{head, mark_at, mark_of_one, mark_of_two};
 ghost use Rattle.sparql_tokens.specs.Pieces.{IsWithin};
 
 use crate::runs::head;
-use fragment_meaning::{Found, Mark, TokenKind};
+use sparql_meaning::{Found, Mark, TokenKind};
 
 fn mark_of_two(first: char, second: char) -> Option<Mark>
     ensures { result ≡ mark_of_two first second }
@@ -50,7 +50,7 @@ fn mark_of_one(c: char) -> Option<Mark>
 }
 
 /// The longest mark in front.
-#[tactic(auto, unfolding(fragment_meaning::specs::Tokens::mark_at))]
+#[tactic(auto, unfolding(sparql_meaning::specs::Tokens::mark_at))]
 pub(crate) fn mark_at(chars: &[char]) -> Option<Found>
     ensures value { result ≡ mark_at chars.now }
     ensures within { IsWithin (length chars.now) result }

@@ -3,7 +3,7 @@
 ghost use Rattle.std.specs.Prelude.{◌≡◌, ◌≤◌, ◌<◌, ◌+◌, length, IsTrue, map, IfOk, IfSome, None, encode_utf8_all};
 ghost use Rattle.std.specs.List.{filter};
 ghost use Rattle.rdf_meaning.specs.Characters.{is_letter};
-ghost use Rattle.fragment_meaning.specs.Tokens.{blank_at, head, is_no_backslash, label_len, later_tag_len, local_len, lower, name_len, named_at, name_or_word, part_len, tag_at, tag_len, tag_tail_len, to_colon, variable_at, word_at};
+ghost use Rattle.sparql_meaning.specs.Tokens.{blank_at, head, is_no_backslash, label_len, later_tag_len, local_len, lower, name_len, named_at, name_or_word, part_len, tag_at, tag_len, tag_tail_len, to_colon, variable_at, word_at};
 ghost use Rattle.sparql_tokens.specs.Nameless.{IsEnd, IsNameless};
 ghost use Rattle.sparql_tokens.specs.Pieces.{IsWithin};
 ghost use Rattle.sparql_tokens.specs.Table.{goes_on};
@@ -12,8 +12,8 @@ use crate::classes::{is_base, is_digit, is_letter, is_part, is_start, is_tag_par
 use crate::escapes::escaped_len;
 use crate::runs::{head, letters_len, variable_len, word_len};
 use crate::words::word_of;
-use fragment_meaning::{Found, LanguageTag, TokenKind};
 use rdf_meaning::{Text, text_of};
+use sparql_meaning::{Found, LanguageTag, TokenKind};
 use std::alloc::{AllocError, Global};
 
 /// The characters as a text.
@@ -25,7 +25,7 @@ pub(crate) fn text_from(alloc: Global, chars: &[char]) -> Result<Text, AllocErro
 }
 
 /// The variable behind its `?` or `$`.
-#[tactic(auto, unfolding(fragment_meaning::specs::Tokens::variable_at))]
+#[tactic(auto, unfolding(sparql_meaning::specs::Tokens::variable_at))]
 pub(crate) fn variable_at(alloc: Global, chars: &[char]) -> Result<Option<Found>, AllocError>
     ensures value { IfOk result (λ f. f ≡ variable_at chars.now) }
     ensures within { IfOk result (IsWithin (1 + length chars.now)) }
@@ -62,7 +62,7 @@ fn tag_tail_len(chars: &[char]) -> usize
     }
 }
 
-#[tactic(auto, unfolding(fragment_meaning::specs::Tokens::tag_len))]
+#[tactic(auto, unfolding(sparql_meaning::specs::Tokens::tag_len))]
 fn tag_len(chars: &[char]) -> usize
     ensures value { result ≡ tag_len chars.now }
     ensures within { result ≤ length chars.now }
@@ -79,7 +79,7 @@ fn lower(alloc: Global, chars: &[char]) -> Result<Text, AllocError>
 }
 
 /// The language tag behind its `@`.
-#[tactic(auto, unfolding(fragment_meaning::specs::Tokens::tag_at))]
+#[tactic(auto, unfolding(sparql_meaning::specs::Tokens::tag_at))]
 pub(crate) fn tag_at(alloc: Global, chars: &[char]) -> Result<Option<Found>, AllocError>
     ensures value { IfOk result (λ f. f ≡ tag_at chars.now) }
     ensures within { IfOk result (IsWithin (1 + length chars.now)) }
@@ -113,7 +113,7 @@ fn part_len(local: bool, chars: &[char]) -> usize
 }
 
 // How many characters a name goes on with; full stops count where something follows them.
-#[tactic(auto, unfolding(fragment_meaning::specs::Tokens::name_len), using(crate::proofs::NameLaws::dot_step, crate::proofs::NameLaws::part_step))]
+#[tactic(auto, unfolding(sparql_meaning::specs::Tokens::name_len), using(crate::proofs::NameLaws::dot_step, crate::proofs::NameLaws::part_step))]
 fn name_len(local: bool, chars: &[char]) -> usize
     ensures value { result ≡ name_len local chars.now }
     ensures within { result ≤ length chars.now }
@@ -154,7 +154,7 @@ fn label_len(chars: &[char]) -> usize
 }
 
 /// The blank node behind its `_`.
-#[tactic(auto, unfolding(fragment_meaning::specs::Tokens::blank_at))]
+#[tactic(auto, unfolding(sparql_meaning::specs::Tokens::blank_at))]
 pub(crate) fn blank_at(alloc: Global, chars: &[char]) -> Result<Option<Found>, AllocError>
     ensures value { IfOk result (λ f. f ≡ blank_at chars.now) }
     ensures within { IfOk result (IsWithin (1 + length chars.now)) }
@@ -203,7 +203,7 @@ fn unescaped(alloc: Global, chars: &[char]) -> Result<Text, AllocError>
 }
 
 /// The name of this prefix whose local name stands behind its colon.
-#[tactic(auto, unfolding(fragment_meaning::specs::Tokens::named_at))]
+#[tactic(auto, unfolding(sparql_meaning::specs::Tokens::named_at))]
 pub(crate) fn named_at(
     alloc: Global,
     prefix: &[char],
@@ -313,7 +313,7 @@ pub(crate) fn nameless_left(known: usize, chars: &[char], next: &[char]) -> usiz
 }
 
 /// The word in front.
-#[tactic(auto, unfolding(fragment_meaning::specs::Tokens::word_at))]
+#[tactic(auto, unfolding(sparql_meaning::specs::Tokens::word_at))]
 fn word_at(chars: &[char]) -> Option<Found>
     requires { IsTrue (is_letter (head chars.now)) }
     ensures value { result ≡ word_at chars.now }

@@ -1,16 +1,16 @@
 //! Integers, decimals and doubles.
 
 ghost use Rattle.std.specs.Prelude.{◌≡◌, ◌≤◌, ◌+◌, length, IfOk};
-ghost use Rattle.fragment_meaning.specs.Tokens.{digits_len, exponent_len, number_at, number_behind, sign_len, with_point, without_point};
+ghost use Rattle.sparql_meaning.specs.Tokens.{digits_len, exponent_len, number_at, number_behind, sign_len, with_point, without_point};
 ghost use Rattle.sparql_tokens.specs.Pieces.{IsWithin};
 
 use crate::names::text_from;
 use crate::runs::{digits_len, sign_len};
-use fragment_meaning::{Found, TokenKind};
+use sparql_meaning::{Found, TokenKind};
 use std::alloc::{AllocError, Global};
 
 // `e`, a sign that may be left out, and digits, or 0.
-#[tactic(auto, unfolding(fragment_meaning::specs::Tokens::exponent_len))]
+#[tactic(auto, unfolding(sparql_meaning::specs::Tokens::exponent_len))]
 fn exponent_len(chars: &[char]) -> usize
     ensures value { result ≡ exponent_len chars.now }
     ensures within { result ≤ length chars.now }
@@ -107,7 +107,7 @@ fn number_behind(
 }
 
 /// The number in front.
-#[tactic(auto, unfolding(fragment_meaning::specs::Tokens::number_at))]
+#[tactic(auto, unfolding(sparql_meaning::specs::Tokens::number_at))]
 pub(crate) fn number_at(alloc: Global, chars: &[char]) -> Result<Option<Found>, AllocError>
     ensures value { IfOk result (λ f. f ≡ number_at chars.now) }
     ensures within { IfOk result (IsWithin (length chars.now)) }

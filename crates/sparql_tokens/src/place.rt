@@ -1,7 +1,7 @@
 //! The token at a place.
 
 ghost use Rattle.std.specs.Prelude.{◌≡◌, ℕ, length, IfOk, IsTrue, None};
-ghost use Rattle.fragment_meaning.specs.Tokens.{or_else, to_colon, token_at};
+ghost use Rattle.sparql_meaning.specs.Tokens.{or_else, to_colon, token_at};
 ghost use Rattle.sparql_tokens.specs.Pieces.{IsWithin};
 
 use crate::classes::is_base;
@@ -9,7 +9,7 @@ use crate::marks::mark_at;
 use crate::names::{blank_at, name_or_word, named_at, tag_at, variable_at};
 use crate::numbers::number_at;
 use crate::quoted::{iri_at, quoted_at};
-use fragment_meaning::Found;
+use sparql_meaning::Found;
 use std::alloc::{AllocError, Global};
 
 fn or_else(first: Option<Found>, second: Option<Found>) -> Option<Found>
@@ -23,7 +23,7 @@ fn or_else(first: Option<Found>, second: Option<Found>) -> Option<Found>
 }
 
 /// The token that begins in front, at its longest; it may be known that it is no name with a prefix.
-#[tactic(auto, unfolding(fragment_meaning::specs::Tokens::token_at))]
+#[tactic(auto, unfolding(sparql_meaning::specs::Tokens::token_at))]
 pub(crate) fn token_at(
     alloc: Global,
     chars: &[char],

@@ -1,14 +1,14 @@
 //! IRIs and texts.
 
 ghost use Rattle.std.specs.Prelude.{◌≡◌, ◌≤◌, ◌+◌, ◌<◌, ◌∷◌, [], length, IsTrue, IfOk, IfSome};
-ghost use Rattle.fragment_meaning.specs.Tokens.{body_at, closing, escape_in, has_short_escapes, iri_of, may_stand_for, quoted_at, stands, starts_with, text_of};
-ghost use Rattle.fragment_meaning.specs.declared.token.Quoting.TheVariants as quoting;
+ghost use Rattle.sparql_meaning.specs.Tokens.{body_at, closing, escape_in, has_short_escapes, iri_of, may_stand_for, quoted_at, stands, starts_with, text_of};
+ghost use Rattle.sparql_meaning.specs.declared.token.Quoting.TheVariants as quoting;
 ghost use Rattle.sparql_tokens.specs.Pieces.{IsWithin, piece};
 
 use crate::classes::{is_iri_part, is_text_part};
 use crate::escapes::escape_at;
-use fragment_meaning::{Body, Escape, Found, Quoting, TokenKind};
 use rdf_meaning::text_of;
+use sparql_meaning::{Body, Escape, Found, Quoting, TokenKind};
 use std::alloc::{AllocError, Global};
 
 fn has_short_escapes(quoting: Quoting) -> bool
@@ -128,7 +128,7 @@ fn piece_at(quoting: Quoting, first: char, rest: &[char]) -> Option<Escape>
 }
 
 /// The text in front, up to its closing marks.
-#[tactic(auto, unfolding(fragment_meaning::specs::Tokens::body_at), using(crate::proofs::BodyLaws::body_paths))]
+#[tactic(auto, unfolding(sparql_meaning::specs::Tokens::body_at), using(crate::proofs::BodyLaws::body_paths))]
 fn body_at(alloc: Global, quoting: Quoting, chars: &[char]) -> Result<Option<Body>, AllocError>
     ensures value { IfOk result (λ b. b ≡ body_at quoting chars.now) }
     ensures within { IfOk result (λ b. IfSome b (λ x. x.chars ≤ length chars.now)) }
@@ -168,7 +168,7 @@ pub(crate) fn iri_at(alloc: Global, chars: &[char]) -> Result<Option<Found>, All
 }
 
 /// The text behind its first quote.
-#[tactic(auto, unfolding(fragment_meaning::specs::Tokens::quoted_at))]
+#[tactic(auto, unfolding(sparql_meaning::specs::Tokens::quoted_at))]
 pub(crate) fn quoted_at(
     alloc: Global,
     quote: char,

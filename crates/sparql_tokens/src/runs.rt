@@ -3,8 +3,8 @@
 ghost use Rattle.std.specs.Prelude.{◌≡◌, ◌≤◌, length};
 ghost use Rattle.std.specs.List.{prefix_len};
 ghost use Rattle.rdf_meaning.specs.Characters as characters;
-ghost use Rattle.fragment_meaning.specs.Classes as classes;
-ghost use Rattle.fragment_meaning.specs.Tokens.{head, sign_len, variable_len};
+ghost use Rattle.sparql_meaning.specs.Classes as classes;
+ghost use Rattle.sparql_meaning.specs.Tokens.{head, sign_len, variable_len};
 
 use crate::classes::{is_digit, is_letter, is_start, is_tag_part, is_variable_part, is_word_part};
 

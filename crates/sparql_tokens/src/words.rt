@@ -3,10 +3,10 @@
 ghost use Rattle.std.specs.Prelude.{◌≡◌, ◌∷◌, [], map};
 ghost use Rattle.std.specs.Char.{to_ascii_uppercase};
 ghost use Rattle.std.specs.Str.{bytes_eq};
-ghost use Rattle.fragment_meaning.specs.Words.{word_in, word_of, words};
+ghost use Rattle.sparql_meaning.specs.Words.{word_in, word_of, words};
 ghost use Rattle.sparql_tokens.specs.Table.{view};
 
-use fragment_meaning::{Feature, Word};
+use sparql_meaning::{Feature, Word};
 
 pub(crate) struct Row {
     capitals: &'static str,
@@ -468,7 +468,7 @@ fn is_lower_a(chars: &[char]) -> bool
 }
 
 /// Which word these characters are, without regard to case but for `a`.
-#[tactic(auto, unfolding(fragment_meaning::specs::Words::word_of))]
+#[tactic(auto, unfolding(sparql_meaning::specs::Words::word_of))]
 pub(crate) fn word_of(chars: &[char]) -> Word
     ensures { result ≡ word_of chars.now }
 {

@@ -13,9 +13,9 @@ use Rattle.sql_rows_meaning.specs.Faults.{Checked, and_then, unless, in_select}
 use Rattle.sql_rows_meaning.specs.Scopes.{Schemas}
 use Rattle.sql_rows_laws.specs.SourceLaws.{some-same}
 use Rattle.sql_rows_meaning.specs.Binding.{check_select, check_others, check_body, check_step_body}
-use Rattle.bound_scripts.specs.declared.script.BoundCore.{BoundCore}
-use Rattle.bound_scripts.specs.declared.script.BoundBody.{BoundBody}
-use Rattle.script_places.specs.Places.{place_core, place_body}
+use Rattle.sql_bind_meaning.specs.declared.script.BoundCore.{BoundCore}
+use Rattle.sql_bind_meaning.specs.declared.script.BoundBody.{BoundBody}
+use Rattle.sql_bind_laws.specs.Places.{place_core, place_body}
 use Rattle.sql_bind.specs.declared.refusal.BindRefusal.{BindRefusal}
 use Rattle.sql_bind.specs.Refusals.{fault_of}
 use Rattle.sql_bind.proofs.Fronts.{at-front}

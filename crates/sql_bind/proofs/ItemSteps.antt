@@ -12,7 +12,7 @@ use Rattle.sql_rows_meaning.specs.Faults.{Checked, and_then, unless}
 use Rattle.sql_rows_meaning.specs.Scopes.{Scope}
 use Rattle.sql_rows_meaning.specs.Checks.{KindChecked, check}
 use Rattle.sql_rows_meaning.specs.Binding.{check_items}
-use Rattle.script_places.specs.Places.{Places, place, place_items}
+use Rattle.sql_bind_laws.specs.Places.{Places, place, place_items}
 use Rattle.sql_bind.proofs.Fronts.{at-front, append-one, nothing-behind}
 
 -- these columns, and what is found behind them

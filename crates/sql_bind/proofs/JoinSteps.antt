@@ -8,9 +8,9 @@ use Rattle.sql_rows_meaning.specs.Faults.{Checked, and_then}
 use Rattle.sql_rows_meaning.specs.Scopes.{Schemas, Seen, schemas_of}
 use Rattle.sql_rows_meaning.specs.Checks.{KindChecked, check_truth}
 use Rattle.sql_rows_meaning.specs.Binding.{check_source, check_join, check_joins}
-use Rattle.bound_scripts.specs.declared.script.BoundJoin.{BoundJoin}
-use Rattle.script_places.specs.Places.{place, places_of, seen_of, number_of, source_in, all_sources, place_joins}
-use Rattle.sql_names.specs.Newest.{scope_in}
+use Rattle.sql_bind_meaning.specs.declared.script.BoundJoin.{BoundJoin}
+use Rattle.sql_bind_laws.specs.Places.{place, places_of, seen_of, number_of, source_in, all_sources, place_joins}
+use Rattle.sql_bind_names.specs.Newest.{scope_in}
 use Rattle.sql_bind.specs.Parts.{IsAdded}
 use Rattle.sql_bind.proofs.Fronts.{at-front, append-one}
 

@@ -8,8 +8,8 @@ use Rattle.sql_rows_meaning.specs.Faults.{and_then}
 use Rattle.sql_rows_meaning.specs.Scopes.{Scope}
 use Rattle.sql_rows_meaning.specs.Checks.{KindChecked, check}
 use Rattle.sql_rows_meaning.specs.Binding.{check_keys}
-use Rattle.bound_scripts.specs.declared.script.BoundKey.{BoundKey}
-use Rattle.script_places.specs.Places.{Places, place, place_keys}
+use Rattle.sql_bind_meaning.specs.declared.script.BoundKey.{BoundKey}
+use Rattle.sql_bind_laws.specs.Places.{Places, place, place_keys}
 use Rattle.sql_bind.proofs.Fronts.{at-front}
 
 pub keys_next : (scope : Scope) (all : List SqlKey) (i : ℕ) (x : SqlKey) (w : KindChecked) (k : Kind) → i < length all → x ≡ get_or all i x → w ≡ check_keys scope (drop i all) → check x.expr scope ≡ Ok k → w ≡ check_keys scope (drop (i + 1) all)

@@ -12,12 +12,12 @@ use Rattle.sql_rows_meaning.specs.declared.schema.NamedSchema.{NamedSchema}
 use Rattle.sql_rows_meaning.specs.Faults.{Checked, and_then}
 use Rattle.sql_rows_meaning.specs.Scopes.{Schemas, with_schema, schemas_of, schemas_in}
 use Rattle.sql_rows_meaning.specs.Binding.{check_body, check_step_body, check_steps, check_script}
-use Rattle.bound_forms.specs.Forms.{BoundForm, bound_fits}
-use Rattle.bound_scripts.specs.declared.script.BoundBody.{BoundBody}
-use Rattle.bound_scripts.specs.declared.script.BoundScript.{BoundScript}
-use Rattle.bound_scripts.specs.Rows.{bound_rows}
-use Rattle.script_places.specs.Places.{place_body, columns_found, step_in, place_steps, all_known, place_script}
-use Rattle.script_places.specs.PlacedRows.{with-more, script-placed}
+use Rattle.sql_bind_forms.specs.Forms.{BoundForm, bound_fits}
+use Rattle.sql_bind_meaning.specs.declared.script.BoundBody.{BoundBody}
+use Rattle.sql_bind_meaning.specs.declared.script.BoundScript.{BoundScript}
+use Rattle.sql_bind_meaning.specs.Rows.{bound_rows}
+use Rattle.sql_bind_laws.specs.Places.{place_body, columns_found, step_in, place_steps, all_known, place_script}
+use Rattle.sql_bind_laws.specs.PlacedRows.{with-more, script-placed}
 use Rattle.sql_bind.specs.Bound.{IsBoundFrom}
 use Rattle.sql_bind.specs.Parts.{AreBoundUpTo, AreBound, HaveFault}
 use Rattle.sql_bind.proofs.SchemaSteps.{body_schema, body_names_differ}

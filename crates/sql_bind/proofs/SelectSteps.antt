@@ -12,10 +12,10 @@ use Rattle.sql_rows_meaning.specs.Scopes.{Scope, Schemas, Seen}
 use Rattle.sql_rows_meaning.specs.Checks.{KindChecked, same_kind}
 use Rattle.sql_rows_meaning.specs.Binding.{check_from, check_joins, check_items, check_like, check_where, check_keys, check_select, same_columns}
 use Rattle.sql_rows_meaning.specs.declared.schema.NamedSchema.{NamedSchema}
-use Rattle.bound_scripts.specs.declared.script.BoundCore.{BoundCore}
-use Rattle.bound_scripts.specs.declared.script.BoundJoin.{BoundJoin}
-use Rattle.bound_scripts.specs.declared.expression.BoundExpr.{BoundExpr}
-use Rattle.script_places.specs.Places.{places_of, first_sources, all_sources, place_from, place_joins, place_items, place_condition, place_keys, place_core}
+use Rattle.sql_bind_meaning.specs.declared.script.BoundCore.{BoundCore}
+use Rattle.sql_bind_meaning.specs.declared.script.BoundJoin.{BoundJoin}
+use Rattle.sql_bind_meaning.specs.declared.expression.BoundExpr.{BoundExpr}
+use Rattle.sql_bind_laws.specs.Places.{places_of, first_sources, all_sources, place_from, place_joins, place_items, place_condition, place_keys, place_core}
 use Rattle.sql_bind.specs.Parts.{check_sources, check_front, check_rest}
 use Rattle.sql_bind.proofs.Fronts.{at-front}
 

@@ -13,7 +13,7 @@ use Rattle.sql_rows_meaning.specs.Faults.{Checked, and_then, unless, found}
 use Rattle.sql_rows_meaning.specs.Scopes.{Scope, Schemas, Seen, with_alias, schemas_of}
 use Rattle.sql_rows_meaning.specs.Checks.{KindChecked}
 use Rattle.sql_rows_meaning.specs.Binding.{check_source, check_from, check_where, check_keys}
-use Rattle.script_places.specs.Places.{seen_of, or_no_columns, source_in, first_sources}
+use Rattle.sql_bind_laws.specs.Places.{seen_of, or_no_columns, source_in, first_sources}
 use Rattle.sql_bind.specs.Parts.{check_rest, IsAdded}
 
 -- ---- a table or an earlier step

@@ -6,8 +6,8 @@ use Rattle.sql_meaning.specs.declared.script.Core.{Core}
 use Rattle.sql_meaning.specs.declared.script.Script.{Script}
 use Rattle.sql_rows_meaning.specs.declared.schema.NamedSchema.{NamedSchema}
 use Rattle.sql_rows_meaning.specs.Binding.{check_script}
-use Rattle.bound_forms.specs.Forms.{BoundForm, HasRowsOf}
-use Rattle.script_places.specs.Places.{place_script}
+use Rattle.sql_bind_forms.specs.Forms.{BoundForm, HasRowsOf}
+use Rattle.sql_bind_laws.specs.Places.{place_script}
 
 -- it is the placed form of the script, with the columns of its rows; over all tables with these schemas it has the script's rows
 pub record IsBoundFrom (s : Script) (schemas : List NamedSchema) (b : BoundForm) : Type 0 where

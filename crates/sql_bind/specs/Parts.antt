@@ -11,8 +11,8 @@ use Rattle.sql_rows_meaning.specs.Faults.{Checked, and_then}
 use Rattle.sql_rows_meaning.specs.Scopes.{Scope, Schemas, schemas_of, Seen}
 use Rattle.sql_rows_meaning.specs.Checks.{KindChecked}
 use Rattle.sql_rows_meaning.specs.Binding.{check_source, check_from, check_joins, check_items, check_where, check_keys, check_body, check_steps}
-use Rattle.bound_scripts.specs.declared.script.BoundBody.{BoundBody}
-use Rattle.script_places.specs.Places.{seen_of, source_in, place_steps, all_known}
+use Rattle.sql_bind_meaning.specs.declared.script.BoundBody.{BoundBody}
+use Rattle.sql_bind_laws.specs.Places.{seen_of, source_in, place_steps, all_known}
 
 -- the sources, each with its ON
 abbrev pub check_sources : Schemas → Core → Checked FaultKind Seen

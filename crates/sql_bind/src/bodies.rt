@@ -5,14 +5,14 @@ ghost use Rattle.sql_rows_meaning.specs.declared.fault.Fault.{Fault};
 ghost use Rattle.sql_rows_meaning.specs.Faults.{in_select};
 ghost use Rattle.sql_rows_meaning.specs.Scopes.{schemas_of};
 ghost use Rattle.sql_rows_meaning.specs.Binding.{check_select, check_others, check_body, check_step_body};
-ghost use Rattle.script_places.specs.Places.{place_core, place_body};
+ghost use Rattle.sql_bind_laws.specs.Places.{place_core, place_body};
 ghost use Rattle.sql_bind.specs.Refusals.{fault_of};
 
 use crate::refusal::{BindRefusal, refusal_at};
 use crate::selects::{Select, bind_first, bind_like};
-use bound_scripts::{BoundBody, BoundCore};
+use sql_bind_meaning::{BoundBody, BoundCore};
+use sql_bind_names::{Known, Stop};
 use sql_meaning::{Core, Step};
-use sql_names::{Known, Stop};
 use sqlite_items::Items;
 use std::alloc::Global;
 use table_meaning::Column;

@@ -3,15 +3,15 @@
 ghost use Rattle.std.specs.Prelude.{◌≡◌, [], Ok, Err, IfOk, IfErr};
 ghost use Rattle.sql_rows_meaning.specs.declared.fault.FaultKind.{FaultKind};
 ghost use Rattle.sql_rows_meaning.specs.Binding.{check_items};
-ghost use Rattle.script_places.specs.Places.{places_of, place_items};
-ghost use Rattle.sql_names.specs.Newest.{scope_in};
-ghost use Rattle.sql_names.specs.declared.stop.Stop.TheVariants as stop;
+ghost use Rattle.sql_bind_laws.specs.Places.{places_of, place_items};
+ghost use Rattle.sql_bind_names.specs.Newest.{scope_in};
+ghost use Rattle.sql_bind_names.specs.declared.stop.Stop.TheVariants as stop;
 
 use crate::names::Names;
-use bound_scripts::BoundExpr;
-use expr_binding::bind_expr;
+use sql_bind_expressions::bind_expr;
+use sql_bind_meaning::BoundExpr;
+use sql_bind_names::{Sources, Stop};
 use sql_meaning::Item;
-use sql_names::{Sources, Stop};
 use sql_rows_meaning::FaultKind;
 use sqlite_items::Items;
 use std::alloc::Global;

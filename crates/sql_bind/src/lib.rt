@@ -10,10 +10,10 @@ mod scripts;
 mod selects;
 mod sources;
 
-pub use bound_forms::Bound;
-pub use bound_scripts::{
-    BoundBody, BoundBranch, BoundCore, BoundExpr, BoundJoin, BoundKey, BoundScript,
-};
 pub use refusal::BindRefusal;
 pub use scripts::bind;
+pub use sql_bind_forms::Bound;
+pub use sql_bind_meaning::{
+    BoundBody, BoundBranch, BoundCore, BoundExpr, BoundJoin, BoundKey, BoundScript,
+};
 pub use sql_rows_meaning::NamedSchema;

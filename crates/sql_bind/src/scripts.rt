@@ -11,10 +11,10 @@ ghost use Rattle.sql_bind.specs.Bound.{has_items, IsBoundFrom};
 
 use crate::bodies::{bind_body, bind_step};
 use crate::refusal::BindRefusal;
-use bound_forms::Bound;
-use bound_scripts::{BoundBody, BoundScript};
+use sql_bind_forms::Bound;
+use sql_bind_meaning::{BoundBody, BoundScript};
+use sql_bind_names::Known;
 use sql_meaning::{Core, Script, Step};
-use sql_names::Known;
 use sql_rows_meaning::NamedSchema;
 use sqlite_items::Items;
 use std::alloc::{AllocError, Global};

@@ -4,12 +4,12 @@ ghost use Rattle.std.specs.Prelude.{◌≡◌, ◌≤◌, IfOk};
 ghost use Rattle.sql_meaning.specs.declared.script.Script.{Script};
 ghost use Rattle.sql_rows_meaning.specs.Scopes.{schemas_in};
 ghost use Rattle.sql_rows_meaning.specs.Rows.{script_rows};
-ghost use Rattle.bound_scripts.specs.Rows.{bound_rows};
-ghost use Rattle.bound_forms.specs.Forms.{HasRowsOf};
+ghost use Rattle.sql_bind_meaning.specs.Rows.{bound_rows};
+ghost use Rattle.sql_bind_forms.specs.Forms.{HasRowsOf};
 
 use crate::row_lists::row_list;
-use bound_forms::Bound;
 use rel_cells::{RowList, TableSet};
+use sql_bind_forms::Bound;
 use std::alloc::{AllocError, Global};
 
 /// The rows of a bound script over tables that have the schemas which were bound, in the same order. The rows stand in

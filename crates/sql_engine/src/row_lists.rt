@@ -2,11 +2,11 @@
 
 ghost use Rattle.std.specs.Prelude.{◌≡◌, IfOk, IsTrue};
 ghost use Rattle.table_meaning.specs.Tables.{are_rows};
-ghost use Rattle.bound_scripts.specs.Rows.{bound_rows};
+ghost use Rattle.sql_bind_meaning.specs.Rows.{bound_rows};
 
 use crate::rows::bound_rows_of;
-use bound_scripts::BoundScript;
 use rel_cells::{RowList, Schema, TableSet};
+use sql_bind_meaning::BoundScript;
 use std::alloc::{AllocError, Global};
 
 /// The rows of a script over a set of tables, in their order, under a schema whose kinds they have.

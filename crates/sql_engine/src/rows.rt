@@ -1,12 +1,12 @@
 //! The rows of a script whose names are places.
 
 ghost use Rattle.std.specs.Prelude.{◌≡◌, IfOk};
-ghost use Rattle.bound_scripts.specs.Rows.{table_relations, bound_body_rows, after_bound_steps, bound_rows};
+ghost use Rattle.sql_bind_meaning.specs.Rows.{table_relations, bound_body_rows, after_bound_steps, bound_rows};
 
-use bound_scripts::{BoundBody, BoundScript};
-use bound_selects::select_rows;
-use bound_values::Relations;
 use rel_cells::{Row, TableSet};
+use sql_bind_meaning::{BoundBody, BoundScript};
+use sql_engine_selects::select_rows;
+use sql_engine_values::Relations;
 use std::alloc::{AllocError, Global};
 
 // The rows of a body's SELECTs, one after another.

@@ -12,8 +12,8 @@ ghost use Rattle.sql_meaning.specs.declared.script.SqlKey.{SqlKey};
 ghost use Rattle.sql_meaning.specs.declared.script.Step.{Step};
 ghost use Rattle.sql_meaning.specs.declared.script.Body.{Body};
 ghost use Rattle.sql_meaning.specs.declared.script.Script.{Script};
-ghost use Rattle.visitor_meaning.specs.Each.{Each, EachOption, Keeps};
-ghost use Rattle.visitor_meaning.specs.Nodes.{Node, an_expr, a_core, a_body, a_script, Made, of_expr, of_core, of_body, of_script, parts, branches};
+ghost use Rattle.sql_alias_meaning.specs.Each.{Each, EachOption, Keeps};
+ghost use Rattle.sql_alias_meaning.specs.Nodes.{Node, an_expr, a_core, a_body, a_script, Made, of_expr, of_core, of_body, of_script, parts, branches};
 
 use sql_meaning::{Body, Core, Script, SqlExpr};
 use std::alloc::{AllocError, Global};

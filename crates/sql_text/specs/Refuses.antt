@@ -9,11 +9,11 @@ use Rattle.sql_meaning.specs.Tokens.{IsCut}
 use Rattle.sql_meaning.specs.declared.token.Placed.{Placed}
 use Rattle.sql_meaning.specs.Grammar.{WholeScript, a_script}
 use Rattle.sql_meaning.specs.declared.script.Script.{Script}
-use Rattle.sql_cursor.specs.Outcomes.{Gets}
-use Rattle.sql_cursor.specs.declared.refusal.Refusal.TheVariants as inner
-use Rattle.sql_cut_laws.specs.Outcomes.{spelled_texts_dont_break}
-use Rattle.sql_reading_laws.specs.Depths.{read_scripts_are_writable, spelled_texts_are_deep_by_depth}
-use Rattle.sql_script_laws.specs.Whole.{Rejects, deep_text, broken_text, left_within, spells_whole}
+use Rattle.sql_text_cursor.specs.Outcomes.{Gets}
+use Rattle.sql_text_cursor.specs.declared.refusal.Refusal.TheVariants as inner
+use Rattle.sql_text_cut_laws.specs.Outcomes.{spelled_texts_dont_break}
+use Rattle.sql_text_reading_laws.specs.Depths.{read_scripts_are_writable, spelled_texts_are_deep_by_depth}
+use Rattle.sql_text_script_laws.specs.Whole.{Rejects, deep_text, broken_text, left_within, spells_whole}
 use Rattle.sql_text.specs.declared.refusal.SqlRefusal.{SqlRefusal}
 use Rattle.sql_text.specs.declared.refusal.SqlRefusal.TheVariants.{NoMemory, Deep, Syntax}
 

@@ -7,4 +7,4 @@ mod script;
 
 pub use read::read_sql;
 pub use refusal::SqlRefusal;
-pub use sql_writer::write_sql;
+pub use sql_text_writer::write_sql;

@@ -7,9 +7,9 @@ ghost use Rattle.sql_text.specs.Refuses.{Refuses, AnswersSpelled};
 
 use crate::refusal::SqlRefusal;
 use crate::script::read_script;
-use sql_cursor::Refusal;
 use sql_meaning::{Placed, Script};
-use sql_tokens::tokens_of;
+use sql_text_cursor::Refusal;
+use sql_text_tokens::tokens_of;
 use std::alloc::Global;
 
 // The place of the first of the last tokens, or the end of the text where there are none.

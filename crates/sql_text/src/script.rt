@@ -2,17 +2,17 @@
 
 ghost use Rattle.std.specs.Prelude.{◌≤◌, ◌<◌, [], IfOk, IfErr, length};
 ghost use Rattle.sql_meaning.specs.Grammar.{WholeScript, Steps, OneStep, a_script, step_list, a_step};
-ghost use Rattle.sql_cursor.specs.Outcomes.{Gets, Stops, MayStop};
-ghost use Rattle.sql_script_laws.specs.Steps.{StepsAt};
-ghost use Rattle.sql_script_laws.specs.Whole.{Rejects};
+ghost use Rattle.sql_text_cursor.specs.Outcomes.{Gets, Stops, MayStop};
+ghost use Rattle.sql_text_script_laws.specs.Steps.{StepsAt};
+ghost use Rattle.sql_text_script_laws.specs.Whole.{Rejects};
 
-use sql_bodies::read_body;
-use sql_cursor::{Refusal, after_mark, expect, next, read_name, stands};
 use sql_meaning::{Mark, Placed, Script, Step};
+use sql_text_bodies::read_body;
+use sql_text_cursor::{Refusal, after_mark, expect, next, read_name, stands};
 use sqlite_items::Items;
 use std::alloc::Global;
 
-#[tactic(auto, using(sql_script_laws::specs::Steps::step_steps))]
+#[tactic(auto, using(sql_text_script_laws::specs::Steps::step_steps))]
 fn read_step(alloc: Global, tokens: &[Placed]) -> Result<(Step, &[Placed]), Refusal>
     ensures reads { IfOk result (λ r. Gets OneStep tokens.now (a_step r.0) r.1.now) }
     ensures shorter { IfOk result (λ r. length r.1.now < length tokens.now) }
@@ -27,7 +27,7 @@ fn read_step(alloc: Global, tokens: &[Placed]) -> Result<(Step, &[Placed]), Refu
 }
 
 // WITH and one step or more.
-#[tactic(auto, using(sql_script_laws::specs::Steps::steps_steps))]
+#[tactic(auto, using(sql_text_script_laws::specs::Steps::steps_steps))]
 fn read_steps(alloc: Global, tokens: &[Placed]) -> Result<(Items<Step>, &[Placed]), Refusal>
     ensures reads { IfOk result (λ r. Gets Steps tokens.now (step_list r.0) r.1.now) }
     ensures shorter { IfOk result (λ r. length r.1.now < length tokens.now) }
@@ -45,7 +45,7 @@ fn read_steps(alloc: Global, tokens: &[Placed]) -> Result<(Items<Step>, &[Placed
     Ok((steps, rest))
 }
 
-#[tactic(auto, using(sql_script_laws::specs::Steps::may_steps_steps))]
+#[tactic(auto, using(sql_text_script_laws::specs::Steps::may_steps_steps))]
 fn may_steps(alloc: Global, tokens: &[Placed]) -> Result<(Items<Step>, &[Placed]), Refusal>
     ensures reads { IfOk result (λ r. StepsAt tokens.now r.0 r.1.now) }
     ensures within { IfOk result (λ r. length r.1.now ≤ length tokens.now) }
@@ -58,7 +58,7 @@ fn may_steps(alloc: Global, tokens: &[Placed]) -> Result<(Items<Step>, &[Placed]
     Ok((steps, rest))
 }
 
-#[tactic(auto, using(sql_script_laws::specs::Steps::script_steps))]
+#[tactic(auto, using(sql_text_script_laws::specs::Steps::script_steps))]
 fn read_front(alloc: Global, tokens: &[Placed]) -> Result<(Script, &[Placed]), Refusal>
     ensures reads { IfOk result (λ r. Gets WholeScript tokens.now (a_script r.0) r.1.now) }
     ensures refuses { IfErr result (λ e. Stops WholeScript tokens.now e) }
@@ -69,7 +69,7 @@ fn read_front(alloc: Global, tokens: &[Placed]) -> Result<(Script, &[Placed]), R
 }
 
 /// Reads all the tokens as a script.
-#[tactic(auto, using(sql_script_laws::specs::Whole::whole_steps))]
+#[tactic(auto, using(sql_text_script_laws::specs::Whole::whole_steps))]
 pub(crate) fn read_script(alloc: Global, tokens: &[Placed]) -> Result<Script, Refusal>
     ensures reads { IfOk result (λ script. Gets WholeScript tokens.now (a_script script) []) }
     ensures refuses { IfErr result (λ e. Rejects tokens.now e) }

@@ -4,8 +4,8 @@ use Rattle.std.proofs.Common.{arith}
 use Rattle.sql_meaning.specs.Scripts.{total, core_refs, body_refs, step_refs, refs_of, up_to}
 use Rattle.sql_meaning.specs.declared.script.Core.{Core}
 use Rattle.sql_meaning.specs.declared.script.Step.{Step}
-use Rattle.visitor_meaning.specs.Each.{Each, none, next}
-use Rattle.visitor_meaning.specs.Nodes.{Made, of_expr, of_core, of_body, of_script}
+use Rattle.sql_alias_meaning.specs.Each.{Each, none, next}
+use Rattle.sql_alias_meaning.specs.Nodes.{Made, of_expr, of_core, of_body, of_script}
 
 -- an expression has no source
 abbrev pub IsCount : Made ℕ ℕ ℕ ℕ → Type 0

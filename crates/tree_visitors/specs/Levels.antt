@@ -14,7 +14,7 @@ use Rattle.sql_meaning.specs.declared.script.Step.{Step}
 use Rattle.sql_meaning.specs.declared.script.Item.{Item}
 use Rattle.sql_meaning.specs.declared.script.JoinTo.{JoinTo}
 use Rattle.sql_meaning.specs.declared.script.SqlKey.{SqlKey}
-use Rattle.visitor_meaning.specs.Each.{Each, EachOption, none, next}
+use Rattle.sql_alias_meaning.specs.Each.{Each, EachOption, none, next}
 
 opened : (n : SqlExpr) (d : SqlExpr-F SqlExpr Branch) → out-SqlExpr n ≡ d → expr_depth n ≡ depth_step (map-SqlExpr SqlExpr Branch ℕ ℕ expr_depth (fold-Branch ℕ ℕ depth_step branch_depth) d)
 opened n d is = fold_out-SqlExpr ℕ ℕ depth_step branch_depth n ∙ ap (λ (e : SqlExpr-F SqlExpr Branch). depth_step (map-SqlExpr SqlExpr Branch ℕ ℕ expr_depth (fold-Branch ℕ ℕ depth_step branch_depth) e)) is

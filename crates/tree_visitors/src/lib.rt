@@ -4,7 +4,7 @@
 mod references;
 mod shape;
 
-pub use alias_renaming::{AliasPair, Rename};
 pub use references::CountRefs;
 pub use shape::Shape;
+pub use sql_alias_renaming::{AliasPair, Rename};
 pub use sql_fold::{SqlFold, fold_sql};

@@ -11,8 +11,8 @@ ghost use Rattle.sql_meaning.specs.declared.script.Item.{Item};
 ghost use Rattle.sql_meaning.specs.declared.script.JoinTo.{JoinTo};
 ghost use Rattle.sql_meaning.specs.declared.script.SqlKey.{SqlKey};
 ghost use Rattle.sql_meaning.specs.declared.script.Step.{Step};
-ghost use Rattle.visitor_meaning.specs.Each.{Each, EachOption, Keeps};
-ghost use Rattle.visitor_meaning.specs.Nodes.{an_expr, a_core, a_body, a_script, of_expr, of_core, of_body, of_script};
+ghost use Rattle.sql_alias_meaning.specs.Each.{Each, EachOption, Keeps};
+ghost use Rattle.sql_alias_meaning.specs.Nodes.{an_expr, a_core, a_body, a_script, of_expr, of_core, of_body, of_script};
 ghost use Rattle.tree_visitors.specs.AnyNode.{AnyNode};
 
 use sql_fold::SqlFold;

@@ -1,6 +1,6 @@
 use nt_lines::read_changes;
-use plain_triples::{PlainTriples, load};
 use rdf_terms::write_term;
+use rdf_triples::{PlainTriples, load};
 use std::alloc::{AllocError, Global};
 use std::test::Fail;
 

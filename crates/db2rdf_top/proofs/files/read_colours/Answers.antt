@@ -1,8 +1,8 @@
 use Rattle.std.proofs.Common.{List, [], ◌≡◌, ℕ, map}
 use Rattle.std.specs.List.{IsDistinct}
-use Rattle.colouring_meaning.specs.ColourLines.{AreFit}
-use Rattle.colouring_lines.specs.declared.colours.ColourLine.{ColourLine}
-use Rattle.colouring_lines.specs.Colours.{colour_of}
+use Rattle.colouring_file_meaning.specs.ColourLines.{AreFit}
+use Rattle.colouring_file.specs.declared.colours.ColourLine.{ColourLine}
+use Rattle.colouring_file.specs.Colours.{colour_of}
 use Rattle.db2rdf_top.proofs.files.read_colours.Goals as goal
 
 none_fit : (direct reverse : ℕ) (lines : List ColourLine) → lines ≡ [] → AreFit direct reverse (map colour_of lines)

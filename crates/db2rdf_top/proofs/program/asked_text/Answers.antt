@@ -1,6 +1,6 @@
 use Rattle.std.proofs.Common.{map, sym, ◌∙◌}
 use Rattle.std.specs.Prelude.{string_bytes}
-use Rattle.command_laws.proofs.InRange.{in-range}
+use Rattle.run_command_laws.proofs.InRange.{in-range}
 use Rattle.db2rdf_top.proofs.program.asked_text.Goals as goal
 
 pub perform-requires : goal.perform-requires

@@ -1,5 +1,5 @@
 use Rattle.std.proofs.Common.{map}
-use Rattle.colouring_lines.specs.Colours.{colour_of}
+use Rattle.colouring_file.specs.Colours.{colour_of}
 use Rattle.db2rdf_top.proofs.Given.{counts_colours_stop, counts_stop, counts_fit, counts_refused}
 use Rattle.db2rdf_top.proofs.program.count_file.Goals as goal
 

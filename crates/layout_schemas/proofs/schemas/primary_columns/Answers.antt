@@ -1,6 +1,6 @@
 use Rattle.std.proofs.Common.{◌+◌, ◌++◌, List, ap, ◌∙◌}
 use Rattle.table_meaning.specs.declared.schema.Column.{Column}
-use Rattle.standing_meaning.specs.Schemas.{pair_columns}
+use Rattle.layout_standing_meaning.specs.Schemas.{pair_columns}
 use Rattle.layout_schemas.proofs.ColumnNames.{primary-more}
 use Rattle.layout_schemas.proofs.schemas.primary_columns.Goals as goal
 

@@ -1,4 +1,4 @@
-use Rattle.standing_meaning.specs.Schemas.{table_of}
+use Rattle.layout_standing_meaning.specs.Schemas.{table_of}
 use Rattle.layout_tables.proofs.Places.{shown-primary}
 use Rattle.layout_tables.proofs.tables.primary_table.Goals as goal
 

@@ -5,8 +5,8 @@ use Rattle.std.specs.Ordering.{nat_cmp}
 use Rattle.table_meaning.specs.Tables.{NamedTable, is_table_set}
 use Rattle.layout_meaning.specs.Columns.{ColumnsOf}
 use Rattle.layout_meaning.specs.Rows.{SideOf}
-use Rattle.standing_meaning.specs.Stored.{StoreOf, tables_of}
-use Rattle.standing_meaning.specs.Changes.{store_of}
+use Rattle.layout_standing_meaning.specs.Stored.{StoreOf, tables_of}
+use Rattle.layout_standing_meaning.specs.Changes.{store_of}
 use Rattle.layout_tables.proofs.RowForms.{five-are_set, tables-are}
 use Rattle.layout_tables.proofs.Ordered.{ordered}
 use Rattle.layout_tables.proofs.tables.tables_of.Goals as goal

@@ -1,7 +1,7 @@
 use Rattle.std.proofs.Common.{sym, subst, [], List, ℕ}
 use Rattle.std.specs.Map.{keys_of}
-use Rattle.colour_meaning.specs.Colouring.{AreColours}
-use Rattle.colour_meaning.proofs.Made.{no_colours}
+use Rattle.pred_colour_meaning.specs.Colouring.{AreColours}
+use Rattle.pred_colour_meaning.proofs.Made.{no_colours}
 use Rattle.pred_colour.specs.Given.{pairs_of}
 use Rattle.pred_colour.proofs.Seen.{no_columns}
 use Rattle.pred_colour.proofs.colouring.colours_in.Goals as goal

@@ -1,6 +1,6 @@
 use Rattle.std.proofs.Common.{take}
 use Rattle.std.specs.Map.{keys_of}
-use Rattle.colour_meaning.specs.Colouring.{AreColours}
+use Rattle.pred_colour_meaning.specs.Colouring.{AreColours}
 use Rattle.pred_colour.specs.Given.{pairs_of, HaveColumns}
 use Rattle.pred_colour.proofs.colouring.colours_in.Given as goal
 

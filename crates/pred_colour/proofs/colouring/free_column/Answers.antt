@@ -1,8 +1,8 @@
 use Rattle.std.proofs.Common.{◌<◌, ◌∙◌, ap, sym, arith, List, ℕ}
 use Rattle.std.specs.List.{list_any}
 use Rattle.std.specs.Map.{keys_of}
-use Rattle.colour_meaning.specs.Interference.{has, neighbours_of}
-use Rattle.colour_meaning.specs.Colouring.{is_seen}
+use Rattle.pred_colour_meaning.specs.Interference.{has, neighbours_of}
+use Rattle.pred_colour_meaning.specs.Colouring.{is_seen}
 use Rattle.pred_colour.specs.Given.{pairs_of}
 use Rattle.pred_colour.specs.GraphRows.{pred_at, stands_in}
 use Rattle.pred_colour.proofs.Seen.{own_place, seen_there, seen_more}

@@ -1,6 +1,6 @@
 use Rattle.std.proofs.Common.{◌≡◌, ◌<◌, ℕ, true}
 use Rattle.std.specs.Map.{keys_of}
-use Rattle.colour_meaning.specs.Colouring.{is_seen}
+use Rattle.pred_colour_meaning.specs.Colouring.{is_seen}
 use Rattle.pred_colour.specs.Given.{pairs_of}
 use Rattle.pred_colour.specs.GraphRows.{pred_at}
 use Rattle.pred_colour.proofs.colouring.free_column.Given as goal

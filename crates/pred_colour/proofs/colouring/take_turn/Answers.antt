@@ -1,7 +1,7 @@
 use Rattle.std.proofs.Common.{◌≡◌, sym, subst, get_or, None, ℕ}
 use Rattle.std.specs.Map.{keys_of}
 use Rattle.std.proofs.lemmas.Result.{on_ok_weaker}
-use Rattle.colour_meaning.specs.Colouring.{column_of, is_seen, IsLeastFree}
+use Rattle.pred_colour_meaning.specs.Colouring.{column_of, is_seen, IsLeastFree}
 use Rattle.pred_colour.specs.Given.{pairs_of}
 use Rattle.pred_colour.proofs.Taken.{at_place, unseen, no_turn, a_turn}
 use Rattle.pred_colour.proofs.Seen.{column_given_if}

@@ -1,5 +1,5 @@
 use Rattle.std.proofs.Common.{◌∙◌, ap, map, subst, List, ℕ}
-use Rattle.colour_meaning.specs.Interference.{has, IsInterference}
+use Rattle.pred_colour_meaning.specs.Interference.{has, IsInterference}
 use Rattle.pred_colour.specs.Entities.{preds_of}
 use Rattle.pred_colour.specs.GraphRows.{graph_of}
 use Rattle.pred_colour.proofs.Neighbourhood.{interferes}

@@ -1,5 +1,5 @@
 use Rattle.std.proofs.Common.{◌≡◌, ℕ, length, take}
-use Rattle.colour_meaning.specs.Interference.{has}
+use Rattle.pred_colour_meaning.specs.Interference.{has}
 use Rattle.pred_colour.specs.GraphRows.{stands_in, AreBelow}
 use Rattle.pred_colour.proofs.places.places_of.Given as goal
 

@@ -1,5 +1,5 @@
 use Rattle.std.proofs.Common.{◌≡◌, ◌&&◌, ◌||◌, ℕ, length, take}
-use Rattle.colour_meaning.specs.Interference.{has}
+use Rattle.pred_colour_meaning.specs.Interference.{has}
 use Rattle.pred_colour.specs.GraphRows.{row_at}
 use Rattle.pred_colour.proofs.rows.join_rows.Given as goal
 

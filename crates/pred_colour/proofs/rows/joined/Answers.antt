@@ -1,5 +1,5 @@
 use Rattle.std.proofs.Common.{◌∙◌, ap, sym, arith}
-use Rattle.colour_meaning.specs.Interference.{has}
+use Rattle.pred_colour_meaning.specs.Interference.{has}
 use Rattle.pred_colour.specs.Entities.{preds_of}
 use Rattle.pred_colour.proofs.Joins.{any_at}
 use Rattle.pred_colour.proofs.rows.joined.Goals as goal

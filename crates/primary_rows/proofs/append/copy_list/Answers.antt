@@ -3,7 +3,7 @@ use Rattle.std.specs.Ordering.{nat_cmp}
 use Rattle.std.specs.BTreeMap.{is_at}
 use Rattle.std.specs.Map.{lookup}
 use Rattle.layout_meaning.specs.Lists.{ListsOf, with_list, with_value}
-use Rattle.bulk_meaning.proofs.Going.{list-there, value-more, fresh-value, first-two, two-differ, take-next}
+use Rattle.layout_bulk_meaning.proofs.Going.{list-there, value-more, fresh-value, first-two, two-differ, take-next}
 use Rattle.primary_rows.proofs.Moved.{same_place}
 use Rattle.primary_rows.proofs.append.copy_list.Goals as goal
 

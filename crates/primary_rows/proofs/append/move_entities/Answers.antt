@@ -2,8 +2,8 @@ use Rattle.std.proofs.Common.{◌≡◌, ◌∷◌, ℕ}
 use Rattle.std.specs.Map.Iter.{deref_pair}
 use Rattle.std.proofs.lemmas.Map.Iter.{rest_more}
 use Rattle.layout_meaning.specs.Side.{Rows, Entities}
-use Rattle.bulk_meaning.specs.Appended.{lists_in_rows, given_entity, named_in_rows}
-use Rattle.bulk_meaning.proofs.Going.{going-good}
+use Rattle.layout_bulk_meaning.specs.Appended.{lists_in_rows, given_entity, named_in_rows}
+use Rattle.layout_bulk_meaning.proofs.Going.{going-good}
 use Rattle.primary_rows.proofs.Moved.{entities-next}
 use Rattle.primary_rows.proofs.append.move_entities.Goals as goal
 

@@ -3,8 +3,8 @@ use Rattle.std.specs.List.Sorted.{IsStrictlySortedBy}
 use Rattle.std.specs.Ordering.{nat_cmp}
 use Rattle.std.specs.Map.{keys_of}
 use Rattle.layout_meaning.specs.Side.{Rows}
-use Rattle.bulk_meaning.specs.Appended.{lists_in_rows, given_entity, named_in_rows, IsAbove}
-use Rattle.bulk_meaning.proofs.Going.{Going}
+use Rattle.layout_bulk_meaning.specs.Appended.{lists_in_rows, given_entity, named_in_rows, IsAbove}
+use Rattle.layout_bulk_meaning.proofs.Going.{Going}
 use Rattle.primary_rows.proofs.append.move_entities.Given as goal
 
 abbrev pub invariant-loop-entity : goal.invariant-loop-entity

@@ -1,7 +1,7 @@
 use Rattle.std.proofs.Common.{IsTrue, [], map, drop}
 use Rattle.std.specs.List.{list_all}
-use Rattle.bulk_meaning.specs.Appended.{lists_in, given_pair, named_by}
-use Rattle.bulk_meaning.proofs.Going.{Going}
+use Rattle.layout_bulk_meaning.specs.Appended.{lists_in, given_pair, named_by}
+use Rattle.layout_bulk_meaning.proofs.Going.{Going}
 use Rattle.primary_rows.specs.Cells.{pair_of, fits}
 use Rattle.primary_rows.proofs.append.moved_row.Given as goal
 

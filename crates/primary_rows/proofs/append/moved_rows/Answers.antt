@@ -2,10 +2,10 @@ use Rattle.std.proofs.Common.{◌≡◌, ◌<◌, ◌≤◌, ◌+◌, ◌∙◌,
 use Rattle.std.specs.List.{flat_map}
 use Rattle.bags.specs.Bag.{total}
 use Rattle.layout_meaning.specs.Side.{Rows}
-use Rattle.bulk_meaning.specs.Appended.{lists_in, given_row, named_by}
-use Rattle.bulk_meaning.proofs.Turns.{turn-length}
-use Rattle.bulk_meaning.proofs.Sides.{count-row}
-use Rattle.bulk_meaning.proofs.Going.{going-good, going-next, going-made, left-next, left-none}
+use Rattle.layout_bulk_meaning.specs.Appended.{lists_in, given_row, named_by}
+use Rattle.layout_bulk_meaning.proofs.Turns.{turn-length}
+use Rattle.layout_bulk_meaning.proofs.Sides.{count-row}
+use Rattle.layout_bulk_meaning.proofs.Going.{going-good, going-next, going-made, left-next, left-none}
 use Rattle.primary_rows.proofs.append.moved_rows.Goals as goal
 
 pub moved_row-requires : goal.moved_row-requires

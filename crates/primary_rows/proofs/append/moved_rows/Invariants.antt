@@ -1,8 +1,8 @@
 use Rattle.std.proofs.Common.{[], drop}
 use Rattle.std.specs.List.{flat_map}
 use Rattle.bags.specs.Bag.{total}
-use Rattle.bulk_meaning.specs.Appended.{lists_in, given_row, named_by}
-use Rattle.bulk_meaning.proofs.Going.{Going}
+use Rattle.layout_bulk_meaning.specs.Appended.{lists_in, given_row, named_by}
+use Rattle.layout_bulk_meaning.proofs.Going.{Going}
 use Rattle.primary_rows.proofs.append.moved_rows.Given as goal
 
 abbrev pub invariant-loop-at : goal.invariant-loop-at

@@ -1,10 +1,10 @@
 use Rattle.std.proofs.Common.{◌∙◌, map, sym, ap, subst}
 use Rattle.std.proofs.lemmas.Result.{IfOk-weaker}
 use Rattle.layout_meaning.specs.Columns.{ColumnsOf}
-use Rattle.standing_meaning.specs.Stored.{text_of_id}
-use Rattle.bulk_meaning.specs.Bulk.{bulk_side}
-use Rattle.columns_meaning.specs.BulkColours.{AreColumnsFor}
-use Rattle.bulk_laws.specs.BulkStore.{HaveCandidates}
+use Rattle.layout_standing_meaning.specs.Stored.{text_of_id}
+use Rattle.layout_bulk_meaning.specs.Bulk.{bulk_side}
+use Rattle.layout_columns_meaning.specs.BulkColours.{AreColumnsFor}
+use Rattle.layout_bulk_laws.specs.BulkStore.{HaveCandidates}
 use Rattle.shredder.specs.Items.{item_of}
 use Rattle.rdf_layout.proofs.Found.{side-columns}
 use Rattle.rdf_layout.proofs.bulk.side_of.Goals as goal

@@ -1,18 +1,18 @@
 use Rattle.std.proofs.Common.{◌≡◌, ◌∙◌, Bool, map, List, sym, subst}
 use Rattle.std.specs.List.{AllByRecursion}
 use Rattle.layout_meaning.specs.Side.{Item}
-use Rattle.standing_meaning.specs.Stored.{IsIdIn, IsStore, layout_of, triple_by, stored_triples, text_of_id}
+use Rattle.layout_standing_meaning.specs.Stored.{IsIdIn, IsStore, layout_of, triple_by, stored_triples, text_of_id}
 use Rattle.shredder.specs.declared.bulk.Placed.{Placed}
 use Rattle.shredder.specs.Items.{item_of}
-use Rattle.columns_meaning.specs.BulkColours.{AreColumnsFor}
+use Rattle.layout_columns_meaning.specs.BulkColours.{AreColumnsFor}
 use Rattle.rdf_layout.specs.OneRow.{ColouredHaveOneRow}
 use Rattle.rdf_layout.proofs.OneRow.{one-row}
 use Rattle.bags.specs.Bag.{SameBag}
-use Rattle.list_order.specs.InOrder.{AreInOrder}
-use Rattle.standing_meaning.specs.Sides.{SidesOf}
-use Rattle.standing_meaning.specs.Changes.{store_of}
-use Rattle.bulk_laws.specs.BulkStore.{bulk_sides}
-use Rattle.columns_meaning.specs.Layouts.{IsLayoutFor}
+use Rattle.layout_list_laws.specs.InOrder.{AreInOrder}
+use Rattle.layout_standing_meaning.specs.Sides.{SidesOf}
+use Rattle.layout_standing_meaning.specs.Changes.{store_of}
+use Rattle.layout_bulk_laws.specs.BulkStore.{bulk_sides}
+use Rattle.layout_columns_meaning.specs.Layouts.{IsLayoutFor}
 use Rattle.rdf_layout.proofs.Found.{direct-ids, reverse-ids, made-sides, made-layout}
 use Rattle.rdf_layout.proofs.bulk.sides_of.Goals as goal
 

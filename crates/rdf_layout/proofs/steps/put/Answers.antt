@@ -3,12 +3,12 @@ use Rattle.std.proofs.lemmas.Result.{err_from_is_err_and}
 use Rattle.value_lists.specs.declared.lists.Put.{Put}
 use Rattle.value_lists.specs.declared.lists.Put.TheVariants.{Added}
 use Rattle.value_lists.specs.Answers.{put_of}
-use Rattle.standing_meaning.specs.Sides.{SidesOf, both_placed}
-use Rattle.standing_meaning.specs.Stored.{StoreOf, IsStore, sides_of}
-use Rattle.standing_meaning.specs.Changes.{store_of, is_stored}
-use Rattle.standing_meaning.proofs.Steps.{before-same}
-use Rattle.standing_meaning.proofs.Changed.{store-in, store-refused}
-use Rattle.triple_sides.specs.Items.{item_of}
+use Rattle.layout_standing_meaning.specs.Sides.{SidesOf, both_placed}
+use Rattle.layout_standing_meaning.specs.Stored.{StoreOf, IsStore, sides_of}
+use Rattle.layout_standing_meaning.specs.Changes.{store_of, is_stored}
+use Rattle.layout_standing_meaning.proofs.Steps.{before-same}
+use Rattle.layout_standing_meaning.proofs.Changed.{store-in, store-refused}
+use Rattle.layout_sides.specs.Items.{item_of}
 use Rattle.rdf_layout.proofs.Putting.{count-is, noted-held, stored-again, stored-placed, refused-book, refused-side, is-full, isnt-full, placed-same}
 use Rattle.rdf_layout.proofs.steps.put.Goals as goal
 

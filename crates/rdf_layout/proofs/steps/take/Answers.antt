@@ -1,8 +1,8 @@
 use Rattle.std.proofs.Common.{sym, ap, ◌∙◌, subst}
 use Rattle.primary_rows.specs.Answers.{took_of}
-use Rattle.standing_meaning.specs.Stored.{StoreOf, IsStore}
-use Rattle.standing_meaning.specs.Changes.{store_of}
-use Rattle.standing_meaning.proofs.Changed.{store-out}
+use Rattle.layout_standing_meaning.specs.Stored.{StoreOf, IsStore}
+use Rattle.layout_standing_meaning.specs.Changes.{store_of}
+use Rattle.layout_standing_meaning.proofs.Changed.{store-out}
 use Rattle.rdf_layout.proofs.Putting.{lacks-new, taken-none, taken-found, found-held}
 use Rattle.rdf_layout.proofs.steps.take.Goals as goal
 

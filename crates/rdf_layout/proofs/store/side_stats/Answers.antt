@@ -1,7 +1,7 @@
 use Rattle.std.proofs.Common.{ap, ◌∙◌}
 use Rattle.layout_meaning.specs.Columns.{ColumnsOf}
-use Rattle.stats_meaning.specs.Statistics.{SideStatsOf}
-use Rattle.stats_laws.proofs.Counts.{side-counted}
+use Rattle.layout_stats_meaning.specs.Statistics.{SideStatsOf}
+use Rattle.layout_stats_laws.proofs.Counts.{side-counted}
 use Rattle.rdf_layout.proofs.store.side_stats.Goals as goal
 
 pub returns : goal.returns

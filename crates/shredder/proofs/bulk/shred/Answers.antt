@@ -2,7 +2,7 @@ use Rattle.std.proofs.Common.{◌∙◌, sym, ap, subst, map, List}
 use Rattle.std.specs.List.{AllByRecursion}
 use Rattle.layout_meaning.specs.Side.{Item}
 use Rattle.layout_meaning.specs.Rows.{SideOf}
-use Rattle.standing_meaning.specs.Stored.{IsIdIn, text_of_id}
+use Rattle.layout_standing_meaning.specs.Stored.{IsIdIn, text_of_id}
 use Rattle.shredder.specs.declared.bulk.Placed.{Placed}
 use Rattle.shredder.specs.Items.{item_of}
 use Rattle.shredder.proofs.Runs.{sorted-each, columns-kept}

@@ -1,5 +1,5 @@
 use Rattle.std.proofs.lemmas.Result.{IfOk-weaker}
-use Rattle.query_refusals.specs.Outcomes.{ReadsTokens, ReadsAs, text_read}
+use Rattle.sparql_refusals.specs.Outcomes.{ReadsTokens, ReadsAs, text_read}
 use Rattle.sparql_reader.proofs.reading.read_short.Goals as goal
 
 pub returns-in-Ok-clause-reads : goal.returns-in-Ok-clause-reads

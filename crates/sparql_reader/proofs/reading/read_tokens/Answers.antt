@@ -1,5 +1,5 @@
 use Rattle.std.proofs.Common.{refl}
-use Rattle.query_grammar.specs.Written.{written}
+use Rattle.sparql_grammar.specs.Written.{written}
 use Rattle.sparql_reader.proofs.TokenSteps.{tokens_read, tokens_faulty, tokens_broken}
 use Rattle.sparql_reader.proofs.reading.read_tokens.Goals as goal
 

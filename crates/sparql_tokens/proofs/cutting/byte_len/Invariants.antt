@@ -1,5 +1,5 @@
 use Rattle.std.proofs.Common.{◌≡◌, ◌+◌, length}
-use Rattle.fragment_meaning.specs.Cut.{size}
+use Rattle.sparql_meaning.specs.Cut.{size}
 use Rattle.sparql_tokens.proofs.cutting.byte_len.Given as goal
 
 abbrev pub invariant-chars : goal.invariant-chars

@@ -1,5 +1,5 @@
 use Rattle.std.proofs.Common.{◌≡◌, ◌+◌, length, false}
-use Rattle.fragment_meaning.specs.Cut.{size, cut_from}
+use Rattle.sparql_meaning.specs.Cut.{size, cut_from}
 use Rattle.sparql_tokens.specs.Nameless.{IsNameless}
 use Rattle.sparql_tokens.specs.Pieces.{before, StartsToken}
 use Rattle.sparql_tokens.proofs.cutting.cut_chars.Given as goal

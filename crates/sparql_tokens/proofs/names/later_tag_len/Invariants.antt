@@ -1,5 +1,5 @@
 use Rattle.std.proofs.Common.{◌≡◌, ◌+◌, drop}
-use Rattle.fragment_meaning.specs.Tokens.{later_tag_len}
+use Rattle.sparql_meaning.specs.Tokens.{later_tag_len}
 use Rattle.sparql_tokens.proofs.names.later_tag_len.Given as goal
 
 abbrev pub invariant-loop-i : goal.invariant-loop-i

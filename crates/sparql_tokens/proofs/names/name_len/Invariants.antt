@@ -1,5 +1,5 @@
 use Rattle.std.proofs.Common.{◌≡◌, ◌≤◌, ◌+◌, length}
-use Rattle.fragment_meaning.specs.Tokens.{name_from}
+use Rattle.sparql_meaning.specs.Tokens.{name_from}
 use Rattle.sparql_tokens.specs.Table.{kept}
 use Rattle.sparql_tokens.proofs.names.name_len.Given as goal
 

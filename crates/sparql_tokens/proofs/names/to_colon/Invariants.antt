@@ -1,5 +1,5 @@
 use Rattle.std.proofs.Common.{◌≡◌, ◌+◌, length}
-use Rattle.fragment_meaning.specs.Tokens.{to_colon}
+use Rattle.sparql_meaning.specs.Tokens.{to_colon}
 use Rattle.sparql_tokens.specs.Table.{more}
 use Rattle.sparql_tokens.proofs.names.to_colon.Given as goal
 

@@ -1,5 +1,5 @@
 use Rattle.std.proofs.Common.{◌≡◌, ◌+◌, length, string_bytes}
-use Rattle.fragment_meaning.specs.Tokens.{behind, body_from}
+use Rattle.sparql_meaning.specs.Tokens.{behind, body_from}
 use Rattle.sparql_tokens.proofs.quoted.body_at.Given as goal
 
 abbrev pub invariant-pieces : goal.invariant-pieces

@@ -1,6 +1,6 @@
 use Rattle.std.proofs.Common.{◌≡◌, ◌+◌, drop}
 use Rattle.std.specs.List.{prefix_len}
-use Rattle.fragment_meaning.specs.Classes.{is_variable_part}
+use Rattle.sparql_meaning.specs.Classes.{is_variable_part}
 use Rattle.sparql_tokens.proofs.runs.variable_rest_len.Given as goal
 
 abbrev pub invariant-loop-i : goal.invariant-loop-i

@@ -1,6 +1,6 @@
 use Rattle.std.proofs.Common.{◌≡◌, drop, map}
 use Rattle.std.specs.Char.{to_ascii_uppercase}
-use Rattle.fragment_meaning.specs.Words.{word_in}
+use Rattle.sparql_meaning.specs.Words.{word_in}
 use Rattle.sparql_tokens.specs.Table.{view}
 use Rattle.sparql_tokens.proofs.words.word_in.Given as goal
 

@@ -1,7 +1,7 @@
 use Rattle.std.proofs.Common.{◌≡◌, ◌+◌, map, take, drop}
 use Rattle.sql_rows_meaning.specs.Scopes.{schemas_of}
 use Rattle.sql_rows_meaning.specs.Binding.{check_others}
-use Rattle.script_places.specs.Places.{place_core}
+use Rattle.sql_bind_laws.specs.Places.{place_core}
 use Rattle.sql_bind.proofs.bodies.bind_others.Given as goal
 
 abbrev pub invariant-loop-at : goal.invariant-loop-at

@@ -1,7 +1,7 @@
 use Rattle.std.proofs.Common.{◌≡◌, [], take, drop}
 use Rattle.sql_rows_meaning.specs.Binding.{check_items}
-use Rattle.script_places.specs.Places.{places_of, place_items}
-use Rattle.sql_names.specs.Newest.{scope_in}
+use Rattle.sql_bind_laws.specs.Places.{places_of, place_items}
+use Rattle.sql_bind_names.specs.Newest.{scope_in}
 use Rattle.sql_bind.proofs.ItemSteps.{behind}
 use Rattle.sql_bind.proofs.items.bind_items.Given as goal
 

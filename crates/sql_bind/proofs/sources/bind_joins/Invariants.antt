@@ -1,7 +1,7 @@
 use Rattle.std.proofs.Common.{◌≡◌, ◌++◌, drop}
 use Rattle.sql_rows_meaning.specs.Scopes.{schemas_of}
 use Rattle.sql_rows_meaning.specs.Binding.{check_joins}
-use Rattle.script_places.specs.Places.{seen_of, all_sources, place_joins}
+use Rattle.sql_bind_laws.specs.Places.{seen_of, all_sources, place_joins}
 use Rattle.sql_bind.proofs.sources.bind_joins.Given as goal
 
 abbrev pub invariant-loop-join : goal.invariant-loop-join

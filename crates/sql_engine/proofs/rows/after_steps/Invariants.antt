@@ -1,5 +1,5 @@
 use Rattle.std.proofs.Common.{◌≡◌, drop}
-use Rattle.bound_scripts.specs.Rows.{table_relations, after_bound_steps}
+use Rattle.sql_bind_meaning.specs.Rows.{table_relations, after_bound_steps}
 use Rattle.sql_engine.proofs.rows.after_steps.Given as goal
 
 abbrev pub invariant-loop-step : goal.invariant-loop-step

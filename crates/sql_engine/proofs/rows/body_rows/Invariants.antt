@@ -1,6 +1,6 @@
 use Rattle.std.proofs.Common.{◌≡◌, take}
 use Rattle.std.specs.List.{flat_map}
-use Rattle.bound_scripts.specs.Selects.{bound_select_rows}
+use Rattle.sql_bind_meaning.specs.Selects.{bound_select_rows}
 use Rattle.sql_engine.proofs.rows.body_rows.Given as goal
 
 abbrev pub invariant-loop-core : goal.invariant-loop-core

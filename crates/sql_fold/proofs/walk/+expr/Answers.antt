@@ -1,7 +1,7 @@
 use Rattle.sql_fold.proofs.Children.{Each-at, Each-next, Each-whole, Keeps-refl, Keeps-then}
 use Rattle.sql_fold.proofs.Shapes.{out-all, out-any, out-first, out-case}
-use Rattle.visitor_meaning.specs.Each.{none}
-use Rattle.visitor_meaning.specs.Nodes.{of_expr}
+use Rattle.sql_alias_meaning.specs.Each.{none}
+use Rattle.sql_alias_meaning.specs.Nodes.{of_expr}
 use Rattle.sql_meaning.specs.declared.expression.Branch.{Branch}
 use Rattle.std.proofs.Common.{rules}
 use Rattle.sql_fold.proofs.walk.+expr.Goals as goal

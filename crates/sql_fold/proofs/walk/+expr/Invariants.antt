@@ -1,7 +1,7 @@
 use Rattle.std.proofs.Common.{take}
 use Rattle.sql_meaning.specs.declared.expression.Branch.{Branch}
-use Rattle.visitor_meaning.specs.Each.{Each, Keeps}
-use Rattle.visitor_meaning.specs.Nodes.{of_expr}
+use Rattle.sql_alias_meaning.specs.Each.{Each, Keeps}
+use Rattle.sql_alias_meaning.specs.Nodes.{of_expr}
 use Rattle.sql_fold.proofs.walk.+expr.Given as goal
 
 -- the outs so far stand for the children so far

@@ -1,5 +1,5 @@
 use Rattle.sql_fold.proofs.Children.{Each-at, Each-kept, Keeps-then}
-use Rattle.visitor_meaning.specs.Nodes.{of_expr}
+use Rattle.sql_alias_meaning.specs.Nodes.{of_expr}
 use Rattle.sql_meaning.specs.declared.script.Item.{Item}
 use Rattle.sql_meaning.specs.declared.script.JoinTo.{JoinTo}
 use Rattle.sql_fold.proofs.walk.fold_core.Goals as goal

@@ -1,6 +1,6 @@
 use Rattle.sql_fold.proofs.Children.{Each-whole, Each-next, Keeps-refl, Keeps-then}
-use Rattle.visitor_meaning.specs.Each.{none}
-use Rattle.visitor_meaning.specs.Nodes.{of_expr}
+use Rattle.sql_alias_meaning.specs.Each.{none}
+use Rattle.sql_alias_meaning.specs.Nodes.{of_expr}
 use Rattle.sql_meaning.specs.declared.script.Item.{Item}
 use Rattle.sql_fold.proofs.walk.fold_items.Goals as goal
 

@@ -1,5 +1,5 @@
 use Rattle.sql_fold.proofs.Children.{Each-kept}
-use Rattle.visitor_meaning.specs.Nodes.{of_body}
+use Rattle.sql_alias_meaning.specs.Nodes.{of_body}
 use Rattle.sql_meaning.specs.declared.script.Step.{Step}
 use Rattle.sql_fold.proofs.walk.fold_sql.Goals as goal
 

@@ -1,6 +1,6 @@
 use Rattle.sql_fold.proofs.Children.{Each-whole, Each-next, Keeps-refl, Keeps-then}
-use Rattle.visitor_meaning.specs.Each.{none}
-use Rattle.visitor_meaning.specs.Nodes.{of_body}
+use Rattle.sql_alias_meaning.specs.Each.{none}
+use Rattle.sql_alias_meaning.specs.Nodes.{of_body}
 use Rattle.sql_meaning.specs.declared.script.Step.{Step}
 use Rattle.sql_fold.proofs.walk.fold_steps.Goals as goal
 

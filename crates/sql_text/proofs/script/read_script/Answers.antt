@@ -1,4 +1,4 @@
-use Rattle.sql_script_laws.specs.Whole.{script_further}
+use Rattle.sql_text_script_laws.specs.Whole.{script_further}
 use Rattle.sql_text.proofs.script.read_script.Goals as goal
 
 pub returns-in-Some-clause-refuses : goal.returns-in-Some-clause-refuses

@@ -1,7 +1,7 @@
 use Rattle.std.proofs.Common.{rules}
 use Rattle.sql_meaning.specs.Grammar.{OneStep}
-use Rattle.sql_cursor.specs.Outcomes.{Stops}
-use Rattle.sql_script_laws.specs.Steps as steps
+use Rattle.sql_text_cursor.specs.Outcomes.{Stops}
+use Rattle.sql_text_script_laws.specs.Steps as steps
 use Rattle.sql_text.proofs.script.read_step.Goals as goal
 
 pub returns-in_err-body-clause-refuses : goal.returns-in_err-body-clause-refuses

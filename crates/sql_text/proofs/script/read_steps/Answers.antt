@@ -1,7 +1,7 @@
 use Rattle.std.proofs.Common.{rules, arith}
 use Rattle.sql_meaning.specs.Grammar.{Steps}
-use Rattle.sql_cursor.specs.Outcomes.{Stops}
-use Rattle.sql_script_laws.specs.Steps as steps
+use Rattle.sql_text_cursor.specs.Outcomes.{Stops}
+use Rattle.sql_text_script_laws.specs.Steps as steps
 use Rattle.sql_text.proofs.script.read_steps.Goals as goal
 
 pub loop-after-init : goal.loop-after-init

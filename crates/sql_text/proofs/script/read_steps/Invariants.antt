@@ -1,5 +1,5 @@
 use Rattle.std.proofs.Common.{◌<◌, length}
-use Rattle.sql_script_laws.specs.Steps.{StepLoop}
+use Rattle.sql_text_script_laws.specs.Steps.{StepLoop}
 use Rattle.sql_text.proofs.script.read_steps.Given as goal
 
 abbrev pub invariant-loop-after : goal.invariant-loop-after

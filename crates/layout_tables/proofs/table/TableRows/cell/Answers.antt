@@ -4,8 +4,8 @@ use Rattle.table_meaning.specs.declared.cell.Cell.{Cell}
 use Rattle.table_meaning.specs.declared.cell.Cell.TheVariants.{Null}
 use Rattle.primary_rows.specs.declared.views.RowView.{RowView}
 use Rattle.primary_rows.specs.Views.{seen_row}
-use Rattle.standing_meaning.specs.Contents.{row_cells}
-use Rattle.list_elements.specs.ElementRows.{element_row}
+use Rattle.layout_standing_meaning.specs.Contents.{row_cells}
+use Rattle.layout_elements.specs.ElementRows.{element_row}
 use Rattle.layout_tables.specs.Shown.{shown_rows}
 use Rattle.layout_tables.specs.declared.table.TableRows.{TableRows}
 use Rattle.layout_tables.proofs.Places.{mapped-at, terms-long}

@@ -1,7 +1,7 @@
 use Rattle.std.proofs.Common.{◌≡◌, ◌<◌, ◌∙◌, ap, sym, subst, arith, ℕ, List, [], length}
 use Rattle.std.specs.List.{list_any}
 use Rattle.std.proofs.lemmas.List.{get_or_read}
-use Rattle.colour_meaning.specs.Interference.{has}
+use Rattle.pred_colour_meaning.specs.Interference.{has}
 use Rattle.pred_colour.proofs.Neighbourhood.{preds_are_keys}
 use Rattle.pred_colour.proofs.Seen.{neighbour_there}
 use Rattle.pred_colour.proofs.graph.Graph.has_neighbour_in.Goals as goal

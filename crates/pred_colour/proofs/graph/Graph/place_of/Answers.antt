@@ -1,5 +1,5 @@
 use Rattle.std.proofs.Common.{◌≡◌, ◌<◌, ◌∙◌, subst, false, IfSome, IfNone, ℕ, List, length}
-use Rattle.colour_meaning.specs.Interference.{has}
+use Rattle.pred_colour_meaning.specs.Interference.{has}
 use Rattle.pred_colour.specs.GraphRows.{pred_at}
 use Rattle.pred_colour.proofs.Neighbourhood.{preds_are_keys}
 use Rattle.pred_colour.proofs.graph.Graph.place_of.Goals as goal

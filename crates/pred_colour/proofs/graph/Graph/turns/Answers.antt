@@ -2,7 +2,7 @@ use Rattle.std.proofs.Common.{subst}
 use Rattle.std.specs.List.Sorted.{IsStrictlySortedBy}
 use Rattle.std.specs.Map.{keys_of}
 use Rattle.std.specs.Ordering.{nat_cmp}
-use Rattle.colour_meaning.specs.Interference.{Graph}
+use Rattle.pred_colour_meaning.specs.Interference.{Graph}
 use Rattle.pred_colour.proofs.Neighbourhood.{keys_with_rows}
 use Rattle.pred_colour.proofs.graph.Graph.turns.Goals as goal
 

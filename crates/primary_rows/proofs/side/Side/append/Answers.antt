@@ -2,7 +2,7 @@ use Rattle.std.proofs.Common.{◌≡◌, ◌∙◌, ◌+◌, ◌≤◌, ◌^◌,
 use Rattle.layout_meaning.specs.Side.{SideState}
 use Rattle.layout_meaning.specs.Lists.{ListsOf}
 use Rattle.layout_meaning.specs.Rows.{SideOf}
-use Rattle.bulk_meaning.specs.Appended.{appended, appended_side}
+use Rattle.layout_bulk_meaning.specs.Appended.{appended, appended_side}
 use Rattle.primary_rows.proofs.Both.{good-later, both-side, both-keep}
 use Rattle.primary_rows.proofs.side.Side.append.Goals as goal
 

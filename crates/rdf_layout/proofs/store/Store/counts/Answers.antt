@@ -2,9 +2,9 @@ use Rattle.std.proofs.Common.{sym, subst}
 use Rattle.std.specs.Prelude.{IfOk}
 use Rattle.std.proofs.lemmas.Result.{IfOk-weaker}
 use Rattle.layout_meaning.specs.Facts.{CountsOf}
-use Rattle.standing_meaning.specs.Stored.{StoreOf, layout_of, tables_of, stored_triples}
-use Rattle.standing_meaning.specs.Changes.{store_of}
-use Rattle.counts_meaning.specs.Counts.{AreCounts}
+use Rattle.layout_standing_meaning.specs.Stored.{StoreOf, layout_of, tables_of, stored_triples}
+use Rattle.layout_standing_meaning.specs.Changes.{store_of}
+use Rattle.layout_counts_meaning.specs.Counts.{AreCounts}
 use Rattle.rdf_layout.proofs.store.Store.counts.Goals as goal
 
 pub counts_of-requires : goal.counts_of-requires

@@ -1,7 +1,7 @@
 use Rattle.std.proofs.Common.{◌≡◌, ◌∷◌, if◌then◌else◌, subst}
 use Rattle.bags.specs.Bag.{SameBag}
-use Rattle.standing_meaning.specs.Stored.{StoreOf, stored_triples}
-use Rattle.standing_meaning.specs.Changes.{store_of, is_stored}
+use Rattle.layout_standing_meaning.specs.Stored.{StoreOf, stored_triples}
+use Rattle.layout_standing_meaning.specs.Changes.{store_of, is_stored}
 use Rattle.primary_rows.specs.declared.side.Took.TheVariants.{Absent}
 use Rattle.rdf_layout.proofs.Keeping.{taken-out_order, held-after_take, absent-same}
 use Rattle.rdf_layout.proofs.store.Store.delete.Goals as goal

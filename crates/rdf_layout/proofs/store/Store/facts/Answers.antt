@@ -2,9 +2,9 @@ use Rattle.std.proofs.Common.{sym, subst}
 use Rattle.std.specs.Prelude.{IfOk}
 use Rattle.std.proofs.lemmas.Result.{IfOk-weaker}
 use Rattle.layout_meaning.specs.Facts.{FactsOf}
-use Rattle.standing_meaning.specs.Stored.{StoreOf, layout_of, tables_of, stored_triples}
-use Rattle.standing_meaning.specs.Changes.{store_of}
-use Rattle.facts_meaning.specs.Facts.{AreFacts}
+use Rattle.layout_standing_meaning.specs.Stored.{StoreOf, layout_of, tables_of, stored_triples}
+use Rattle.layout_standing_meaning.specs.Changes.{store_of}
+use Rattle.layout_facts_meaning.specs.Facts.{AreFacts}
 use Rattle.rdf_layout.proofs.store.Store.facts.Goals as goal
 
 pub facts_of-requires : goal.facts_of-requires

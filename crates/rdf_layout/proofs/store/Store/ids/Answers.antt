@@ -2,9 +2,9 @@ use Rattle.std.proofs.Common.{List, sym, subst}
 use Rattle.std.specs.Prelude.{IfOk}
 use Rattle.std.proofs.lemmas.Result.{IfOk-weaker}
 use Rattle.layout_meaning.specs.Facts.{IdOf}
-use Rattle.standing_meaning.specs.Stored.{StoreOf, layout_of, tables_of, stored_triples}
-use Rattle.standing_meaning.specs.Changes.{store_of}
-use Rattle.facts_meaning.specs.Facts.{AreIds}
+use Rattle.layout_standing_meaning.specs.Stored.{StoreOf, layout_of, tables_of, stored_triples}
+use Rattle.layout_standing_meaning.specs.Changes.{store_of}
+use Rattle.layout_facts_meaning.specs.Facts.{AreIds}
 use Rattle.rdf_layout.proofs.store.Store.ids.Goals as goal
 
 pub ids_of-requires : goal.ids_of-requires

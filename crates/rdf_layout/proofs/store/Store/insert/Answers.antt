@@ -2,9 +2,9 @@ use Rattle.std.proofs.Common.{◌≡◌, ◌∷◌, if◌then◌else◌, Ok, sub
 use Rattle.std.specs.Prelude.{OnOk, OnErr}
 use Rattle.std.proofs.lemmas.Result.{on_ok_weaker, on_err_weaker}
 use Rattle.bags.specs.Bag.{SameBag}
-use Rattle.standing_meaning.specs.Stored.{StoreOf, stored_triples}
-use Rattle.standing_meaning.specs.Changes.{store_of, is_stored}
-use Rattle.standing_meaning.proofs.Changed.{triples-refused}
+use Rattle.layout_standing_meaning.specs.Stored.{StoreOf, stored_triples}
+use Rattle.layout_standing_meaning.specs.Changes.{store_of, is_stored}
+use Rattle.layout_standing_meaning.proofs.Changed.{triples-refused}
 use Rattle.value_lists.specs.declared.lists.Put.TheVariants.{There}
 use Rattle.rdf_layout.proofs.Keeping.{put-in_order, held-after_put, there-same}
 use Rattle.rdf_layout.proofs.store.Store.insert.Goals as goal

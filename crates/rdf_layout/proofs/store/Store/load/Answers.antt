@@ -1,9 +1,9 @@
 use Rattle.std.proofs.Common.{◌≡◌, List, subst}
 use Rattle.layout_meaning.specs.Side.{Item}
-use Rattle.bulk_laws.specs.BulkStore.{bulk_sides}
-use Rattle.standing_meaning.specs.Stored.{layout_of}
-use Rattle.standing_meaning.specs.Changes.{store_of}
-use Rattle.columns_meaning.specs.Layouts.{IsLayoutFor}
+use Rattle.layout_bulk_laws.specs.BulkStore.{bulk_sides}
+use Rattle.layout_standing_meaning.specs.Stored.{layout_of}
+use Rattle.layout_standing_meaning.specs.Changes.{store_of}
+use Rattle.layout_columns_meaning.specs.Layouts.{IsLayoutFor}
 use Rattle.rdf_layout.proofs.Found.{loaded-for, loaded-placed}
 use Rattle.rdf_layout.proofs.store.Store.load.Goals as goal
 

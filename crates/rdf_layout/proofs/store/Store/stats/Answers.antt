@@ -1,10 +1,10 @@
 use Rattle.std.proofs.Common.{◌∙◌, subst}
 use Rattle.layout_meaning.specs.Rows.{SideOf}
-use Rattle.standing_meaning.specs.Contents.{side_contents}
-use Rattle.standing_meaning.specs.Stored.{StoreOf, layout_of, tables_of, stored_triples}
-use Rattle.standing_meaning.specs.Changes.{store_of}
-use Rattle.stats_meaning.specs.Statistics.{StatsOf, AreStats, AreSideStats}
-use Rattle.stats_laws.proofs.Counts.{store-counted}
+use Rattle.layout_standing_meaning.specs.Contents.{side_contents}
+use Rattle.layout_standing_meaning.specs.Stored.{StoreOf, layout_of, tables_of, stored_triples}
+use Rattle.layout_standing_meaning.specs.Changes.{store_of}
+use Rattle.layout_stats_meaning.specs.Statistics.{StatsOf, AreStats, AreSideStats}
+use Rattle.layout_stats_laws.proofs.Counts.{store-counted}
 use Rattle.rdf_layout.proofs.Putting.{count-is}
 use Rattle.rdf_layout.proofs.store.Store.stats.Goals as goal
 

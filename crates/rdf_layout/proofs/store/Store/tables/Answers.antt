@@ -2,11 +2,11 @@ use Rattle.std.proofs.Common.{List, sym, subst}
 use Rattle.std.specs.Prelude.{IfOk}
 use Rattle.std.proofs.lemmas.Result.{IfOk-weaker}
 use Rattle.table_meaning.specs.Tables.{NamedTable}
-use Rattle.standing_meaning.specs.Contents.{contents_of}
-use Rattle.standing_meaning.specs.Standing.{StandsFor}
-use Rattle.standing_meaning.specs.Stored.{StoreOf, layout_of, tables_of, stored_triples}
-use Rattle.standing_meaning.specs.Changes.{store_of}
-use Rattle.standing_meaning.proofs.Stands.{stands}
+use Rattle.layout_standing_meaning.specs.Contents.{contents_of}
+use Rattle.layout_standing_meaning.specs.Standing.{StandsFor}
+use Rattle.layout_standing_meaning.specs.Stored.{StoreOf, layout_of, tables_of, stored_triples}
+use Rattle.layout_standing_meaning.specs.Changes.{store_of}
+use Rattle.layout_standing_meaning.proofs.Stands.{stands}
 use Rattle.layout_tables.specs.RowOrder.{StandInOrder}
 use Rattle.rdf_layout.proofs.store.Store.tables.Goals as goal
 

@@ -1,5 +1,0 @@
-use Rattle.algebra_laws.specs.Joins.{same-join}
-use Rattle.algebra_laws.proofs.joins.joins_respect_bags.Goals as goal
-
-pub returns : goal.returns
-returns c = same-join

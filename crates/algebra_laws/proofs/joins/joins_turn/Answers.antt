@@ -1,5 +1,0 @@
-use Rattle.algebra_laws.specs.Joins.{join-comm}
-use Rattle.algebra_laws.proofs.joins.joins_turn.Goals as goal
-
-pub returns : goal.returns
-returns c = join-comm

@@ -1,5 +1,0 @@
-use Rattle.algebra_laws.specs.Joins.{same-left_join}
-use Rattle.algebra_laws.proofs.joins.left_joins_respect_bags.Goals as goal
-
-pub returns : goal.returns
-returns c = same-left_join

@@ -1,5 +1,0 @@
-use Rattle.algebra_laws.specs.Split.{left_join_split}
-use Rattle.algebra_laws.proofs.joins.left_joins_split.Goals as goal
-
-pub returns : goal.returns
-returns c = left_join_split

@@ -1,5 +1,0 @@
-use Rattle.algebra_laws.specs.Optional.{left_join_into}
-use Rattle.algebra_laws.proofs.joins.optional_moves_in.Goals as goal
-
-pub returns : goal.returns
-returns c = left_join_into

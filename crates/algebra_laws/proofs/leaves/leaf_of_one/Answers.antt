@@ -1,5 +1,0 @@
-use Rattle.algebra_laws.specs.OneLeaf.{leaf_one}
-use Rattle.algebra_laws.proofs.leaves.leaf_of_one.Goals as goal
-
-pub returns : goal.returns
-returns c = leaf_one

@@ -1,5 +1,0 @@
-use Rattle.algebra_laws.specs.OrderedAnswer.{order-same}
-use Rattle.algebra_laws.proofs.order.one_order.Goals as goal
-
-pub returns : goal.returns
-returns c = order-same

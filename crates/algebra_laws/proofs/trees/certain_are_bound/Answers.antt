@@ -1,5 +1,0 @@
-use Rattle.algebra_laws.specs.TreeSolutions.{solutions-bind}
-use Rattle.algebra_laws.proofs.trees.certain_are_bound.Goals as goal
-
-pub returns : goal.returns
-returns c = solutions-bind

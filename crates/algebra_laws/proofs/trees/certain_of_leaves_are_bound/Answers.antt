@@ -1,5 +1,0 @@
-use Rattle.algebra_laws.specs.TreeSolutions.{eval-binds}
-use Rattle.algebra_laws.proofs.trees.certain_of_leaves_are_bound.Goals as goal
-
-pub returns : goal.returns
-returns g c = eval-binds

@@ -1,5 +1,0 @@
-use Rattle.algebra_laws.specs.TreeSolutions.{eval-over}
-use Rattle.algebra_laws.proofs.trees.solutions_of_leaves_stay_over.Goals as goal
-
-pub returns : goal.returns
-returns g c = eval-over

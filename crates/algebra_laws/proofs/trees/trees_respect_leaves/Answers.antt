@@ -1,5 +1,0 @@
-use Rattle.algebra_laws.specs.TreeSolutions.{eval-same}
-use Rattle.algebra_laws.proofs.trees.trees_respect_leaves.Goals as goal
-
-pub returns : goal.returns
-returns g c = eval-same

@@ -1,5 +1,0 @@
-use Rattle.binding_laws.specs.TermBinds.{filter_fine}
-use Rattle.binding_laws.proofs.binding.filter_binds.Goals as goal
-
-pub returns : goal.returns
-returns c = filter_fine

@@ -1,9 +1,0 @@
-use Rattle.std.proofs.Common.{◌≡◌, map, drop}
-use Rattle.bound_scripts.specs.Sources.{bound_all_joined}
-use Rattle.bound_values.specs.Places.{picked}
-use Rattle.bound_joins.proofs.joins.all_joined.Given as goal
-
-abbrev pub invariant-loop-join : goal.invariant-loop-join
-invariant-loop-join g l =
-    bound_all_joined l.relations l.joins (map (picked l.relations) l.fn.first.items)
-    ≡ bound_all_joined l.relations (drop l.join-index l.joins) (map (picked l.relations) l.rows.items)

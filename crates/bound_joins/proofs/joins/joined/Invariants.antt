@@ -1,8 +1,0 @@
-use Rattle.std.proofs.Common.{◌≡◌, map}
-use Rattle.std.specs.List.{flat_map}
-use Rattle.bound_scripts.specs.Sources.{bound_joined_to}
-use Rattle.bound_values.specs.Places.{picked}
-use Rattle.bound_joins.proofs.joins.joined.Given as goal
-
-abbrev pub invariant-lefts : goal.invariant-lefts
-invariant-lefts g l = map (picked l.relations) l.joined.items ≡ flat_map (bound_joined_to l.relations l.join) (map (picked l.relations) l.yielded)

@@ -1,6 +1,0 @@
-use Rattle.std.proofs.Common.{◌≡◌, map}
-use Rattle.bound_selects.specs.KeyedRows.{keyed}
-use Rattle.bound_selects.proofs.keyed.keyed_rows.Given as goal
-
-abbrev pub invariant-rows : goal.invariant-rows
-invariant-rows g l = l.all.items ≡ map (keyed l.relations l.keys) l.yielded

@@ -1,7 +1,0 @@
-use Rattle.std.proofs.Common.{drop}
-use Rattle.query_meaning.specs.Variables.{pattern_variables}
-use Rattle.certain_variables.specs.Patterns.{Rest}
-use Rattle.certain_variables.proofs.patterns.variables.Given as goal
-
-abbrev pub invariant-loop-pattern : goal.invariant-loop-pattern
-invariant-loop-pattern l = Rest l.set (drop l.pattern-index l.patterns) (pattern_variables l.patterns)

@@ -1,5 +1,0 @@
-use Rattle.change_laws.proofs.Present.{adds_present}
-use Rattle.change_laws.proofs.added.Goals as goal
-
-pub returns : goal.returns
-returns c = adds_present

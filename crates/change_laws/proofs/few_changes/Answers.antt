@@ -1,5 +1,0 @@
-use Rattle.change_laws.proofs.Counts.{few}
-use Rattle.change_laws.proofs.few_changes.Goals as goal
-
-pub returns : goal.returns
-returns c = few

@@ -1,5 +1,0 @@
-use Rattle.command_laws.proofs.InRange.{in-range}
-use Rattle.command_laws.proofs.in_range.Goals as goal
-
-pub returns : goal.returns
-returns c = in-range

@@ -1,5 +1,0 @@
-use Rattle.counts_meaning.proofs.Bags.{counted-same}
-use Rattle.counts_meaning.proofs.same_counts.Goals as goal
-
-pub returns : goal.returns
-returns c = counted-same

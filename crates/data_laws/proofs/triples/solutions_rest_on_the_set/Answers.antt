@@ -1,5 +1,0 @@
-use Rattle.data_laws.specs.Solutions.{same-solutions}
-use Rattle.data_laws.proofs.triples.solutions_rest_on_the_set.Goals as goal
-
-pub returns : goal.returns
-returns c = same-solutions

@@ -1,5 +1,0 @@
-use Rattle.query_cut_laws.specs.EachAnswer.{answers_are_cuts}
-use Rattle.query_cut_laws.proofs.laws.answers_are_cuts.Goals as goal
-
-pub returns : goal.returns
-returns c = answers_are_cuts c.texts_are_cut_by_longest_tokens.ensures.right

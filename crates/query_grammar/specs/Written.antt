@@ -1,7 +1,0 @@
--- What was read, as the grammar has it.
-use Rattle.fragment_grammar.specs.Grammar.{cut_of}
-use Rattle.fragment_grammar.specs.Grammar.{Written as WrittenQuery}
-use Rattle.query_grammar.specs.declared.whole.Written.{Written}
-
-abbrev pub written : Written → WrittenQuery
-written w = record { distinct = w.distinct; shown = w.shown; elements = w.elements; keys = w.keys; cut = cut_of w.slice.skip w.slice.most }

@@ -1,6 +1,0 @@
-use Rattle.std.proofs.Common.{◌≡◌, drop}
-use Rattle.fragment_queries.specs.Queries.{once, patterns_variables}
-use Rattle.query_syntax.proofs.shown.note_patterns.Given as goal
-
-abbrev pub invariant-loop-pattern : goal.invariant-loop-pattern
-invariant-loop-pattern l = once l.seen (patterns_variables (drop l.pattern-index l.patterns)) ≡ once l.fn.seen (patterns_variables l.patterns)

@@ -1,0 +1,74 @@
+-- What a script that is bound and run gives, or why it isn't run.
+use Rattle.std.proofs.Common.{◌≡◌, ℕ, true, List, refl, sym, ap, ◌∙◌, subst}
+use Rattle.std.proofs.lemmas.Bool.{and_parts}
+use Rattle.std.specs.Prelude.{Option, Some, None, Result, Ok, Err, MatchOption, nat_le}
+use Rattle.table_meaning.specs.CellText.{cells_text}
+use Rattle.table_meaning.specs.Tables.{NamedTable, RowTable}
+use Rattle.sql_meaning.specs.Scripts.{depth_of, most_levels, script_form, is_writable}
+use Rattle.sql_meaning.specs.declared.script.Script.{Script}
+use Rattle.sql_rows_meaning.specs.declared.fault.Fault.{Fault}
+use Rattle.sql_rows_meaning.specs.declared.schema.NamedSchema.{NamedSchema}
+use Rattle.sql_rows_meaning.specs.Scopes.{schemas_in}
+use Rattle.sql_rows_meaning.specs.Rows.{script_rows}
+use Rattle.sql_rows_meaning.specs.Binding.{check_script}
+use Rattle.sql_bind_forms.specs.Forms.{BoundForm, HasRowsOf}
+use Rattle.sql_bind.specs.declared.refusal.BindRefusal.{BindRefusal}
+use Rattle.sql_bind.specs.Refusals.{fault_of}
+use Rattle.sql_bind.specs.Bound.{IsBoundFrom}
+use Rattle.run_meaning.specs.declared.status.Status.{Status}
+use Rattle.run_meaning.specs.declared.status.Status.TheVariants.{BadSql, NoMemory}
+use Rattle.run_outcome_meaning.specs.Outcome.{Work, running, fault_in, bound_work, judged_script, ScriptAsks}
+use Rattle.run_outcome_meaning.specs.FittingText.{ScriptText, FitsText}
+use Rattle.run_outcome_meaning.specs.Refusal.{RefusedAs, refused_map}
+
+-- a script that can be written has the forms of the dialect
+pub writable_form : (script : Script) → is_writable script ≡ true → script_form script ≡ true
+writable_form script h = (and_parts (nat_le (depth_of script) most_levels) (script_form script) h).1
+
+-- the first fault is the status that is asked for
+pub bind_refused : (e : BindRefusal) (status : Status) (script : Script) (tables : List NamedTable) (schemas : List NamedSchema) → schemas ≡ schemas_in tables
+    → ((f : Fault) → fault_of e ≡ Some f → check_script script schemas ≡ Err f)
+    → MatchOption (fault_of e) (status ≡ NoMemory) (λ f. status ≡ BadSql (fault_in f.kind f.select))
+    → RefusedAs status (λ s. judged_script tables script ≡ Err s)
+bind_refused e status script tables schemas same first told = by (fault_of e) refl told
+  where
+    Owed : Status → Type 0
+    Owed s = RefusedAs s (λ t. judged_script tables script ≡ Err t)
+
+    by : (o : Option Fault) → fault_of e ≡ o → MatchOption o (status ≡ NoMemory) (λ f. status ≡ BadSql (fault_in f.kind f.select)) → Owed status
+    by None h is = subst Owed (sym is) tt
+    by (Some f) h is =
+        let here : check_script script (schemas_in tables) ≡ Err f = ap (check_script script) (sym same) ∙ first f h in
+        subst Owed (sym is) (ap (bound_work tables script) here)
+
+-- what was bound over equal schemas
+pub bound_over : (script : Script) (given schemas : List NamedSchema) (b : BoundForm) → given ≡ schemas → IsBoundFrom script given b → IsBoundFrom script schemas b
+bound_over script given schemas b same bound = subst (λ (ss : List NamedSchema). IsBoundFrom script ss b) same bound
+
+-- a script that is bound is run
+pub bound_judged : (script : Script) (tables : List NamedTable) (b : BoundForm) → IsBoundFrom script (schemas_in tables) b → judged_script tables script ≡ Ok (running tables script)
+bound_judged script tables b bound = ap (bound_work tables script) bound.columns
+
+-- a script is run over the tables for which it is bound
+pub same_tables : (script : Script) (tables : List NamedTable) (b : BoundForm) → IsBoundFrom script (schemas_in tables) b → schemas_in tables ≡ b.tables
+same_tables script tables b bound = sym bound.tables
+
+-- the cells of the script's rows are those that are asked for
+pub cells_fit : (script : Script) (tables : List NamedTable) (b : BoundForm) (rows : RowTable) (cells : List ℕ) → IsBoundFrom script (schemas_in tables) b
+    → ((s : Script) → HasRowsOf s b → rows ≡ record { schema = b.columns; rows = script_rows s tables }) → cells ≡ cells_text rows → ScriptText tables script cells
+cells_fit script tables b rows cells bound run text = record {
+  columns = b.columns;
+  bound = bound.columns;
+  cells = text ∙ ap cells_text (run script bound.rows);
+}
+
+-- what the text asks for, where its script is run
+pub text_asks : (text : List ℕ) (tables : List NamedTable) (script : Script) (cells : List ℕ) → ScriptAsks text (judged_script tables script)
+    → judged_script tables script ≡ Ok (running tables script) → ScriptText tables script cells → (work : Work) × ScriptAsks text (Ok work) × FitsText work cells
+text_asks text tables script cells asks judged fits = (running tables script, subst (λ (o : Result Work Status). ScriptAsks text o) judged asks, fits)
+
+-- what the text asks for, where its script is not run
+pub text_refused : (text : List ℕ) (tables : List NamedTable) (script : Script) (status : Status) → ScriptAsks text (judged_script tables script)
+    → RefusedAs status (λ s. judged_script tables script ≡ Err s) → RefusedAs status (λ s. ScriptAsks text (Err s))
+text_refused text tables script status asks r =
+    refused_map status (λ s. judged_script tables script ≡ Err s) (λ s. ScriptAsks text (Err s)) (λ s e. subst (λ (o : Result Work Status). ScriptAsks text o) e asks) r

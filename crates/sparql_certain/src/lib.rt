@@ -1,0 +1,10 @@
+//! The variables that every solution of a tree binds.
+#![tactic(auto)]
+
+mod leaf_vars;
+mod patterns;
+mod trees;
+
+pub use leaf_vars::LeafVars;
+pub use sparql_variables::VarSet;
+pub use trees::certain;

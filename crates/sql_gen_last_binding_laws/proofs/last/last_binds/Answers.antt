@@ -1,0 +1,5 @@
+use Rattle.sql_gen_last_binding_laws.specs.LastBinds.{last-fine}
+use Rattle.sql_gen_last_binding_laws.proofs.last.last_binds.Goals as goal
+
+pub returns : goal.returns
+returns c = last-fine

@@ -1,6 +1,0 @@
-use Rattle.std.proofs.Common.{◌≡◌, take}
-use Rattle.sql_names.specs.Entries.{all_columns}
-use Rattle.sql_names.proofs.columns.Columns.new.Given as goal
-
-abbrev pub invariant-loop-at : goal.invariant-loop-at
-invariant-loop-at l = all_columns l.kinds.entries ≡ take l.at l.columns

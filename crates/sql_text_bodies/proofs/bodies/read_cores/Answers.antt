@@ -1,0 +1,23 @@
+use Rattle.std.proofs.Common.{rules}
+use Rattle.sql_text_cursor.specs.Outcomes.{Fault}
+use Rattle.sql_text_cursor.specs.Table.{body_after}
+use Rattle.sql_text_bodies.specs.Bodies as bodies
+use Rattle.sql_text_bodies.proofs.bodies.read_cores.Goals as goal
+
+pub returns-clause-reads : goal.returns-clause-reads
+returns-clause-reads c =
+    bodies.cores_made _ _ _ _ _ _ _ _ _ _ c.in_ok-parts.ensures.reads (c.stands.ensures.no c.if-stands.false) c.in_ok-ending.ensures.reads c.new-cores.ensures c.in_ok-push.ensures.ok c.core_of.ensures
+
+pub returns-in_err-ending-clause-refuses : goal.returns-in_err-ending-clause-refuses
+returns-in_err-ending-clause-refuses c =
+    let h : Fault body_after bodies.cores_form c.args.tokens.now c.in_err-ending.field-0.0 = bodies.cores_ending_stops _ _ _ _ c.in_ok-parts.ensures.reads (c.stands.ensures.no c.if-stands.false) c.in_err-ending.ensures.refuses in
+    search rules
+
+pub returns-in_err-cores-clause-refuses : goal.returns-in_err-cores-clause-refuses
+returns-in_err-cores-clause-refuses c =
+    let h : Fault body_after bodies.cores_form c.args.tokens.now c.in_err-cores.field-0.0 = bodies.cores_unions_stops _ _ _ _ c.in_ok-parts.ensures.reads (c.stands.ensures.yes c.if-stands.true) c.in_err-cores.ensures.refuses in
+    search rules
+
+pub returns-then-stands-clause-reads : goal.returns-then-stands-clause-reads
+returns-then-stands-clause-reads c =
+    bodies.cores_joined _ _ _ _ _ _ c.in_ok-parts.ensures.reads (c.stands.ensures.yes c.if-stands.true) c.in_ok-cores.ensures.reads c.plain_core.ensures

@@ -1,5 +1,0 @@
-use Rattle.sql_tokens.specs.Pieces.{opens_first}
-use Rattle.sql_tokens.proofs.cut.opening.Goals as goal
-
-pub returns : goal.returns
-returns c = opens_first _ _ c.requires c.opening_of.ensures

@@ -1,5 +1,0 @@
-use Rattle.star_laws.specs.Merging.{leaf-optional}
-use Rattle.star_laws.proofs.merging.optional_arms_merge.Goals as goal
-
-pub returns : goal.returns
-returns c = leaf-optional

@@ -1,5 +1,0 @@
-use Rattle.star_laws.specs.PlanSolutions.{plan-bind}
-use Rattle.star_laws.proofs.plans.plans_bind_certain.Goals as goal
-
-pub returns : goal.returns
-returns c = plan-bind

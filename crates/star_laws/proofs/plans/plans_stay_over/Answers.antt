@@ -1,5 +1,0 @@
-use Rattle.star_laws.specs.PlanSolutions.{plan-over}
-use Rattle.star_laws.proofs.plans.plans_stay_over.Goals as goal
-
-pub returns : goal.returns
-returns c = plan-over

@@ -1,5 +1,0 @@
-use Rattle.star_laws.specs.StarLeaves.{both-left_joins}
-use Rattle.star_laws.proofs.stars.stars_are_left_joins.Goals as goal
-
-pub returns : goal.returns
-returns c = both-left_joins

@@ -1,5 +1,0 @@
-use Rattle.stats_laws.proofs.Counts.{spilled-same}
-use Rattle.stats_laws.proofs.spilled.Goals as goal
-
-pub returns : goal.returns
-returns c = spilled-same

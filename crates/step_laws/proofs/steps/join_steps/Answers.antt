@@ -1,5 +1,0 @@
-use Rattle.step_laws.specs.JoinStep.{join_step}
-use Rattle.step_laws.proofs.steps.join_steps.Goals as goal
-
-pub returns : goal.returns
-returns c = join_step

@@ -1,5 +1,0 @@
-use Rattle.step_laws.specs.UnionStep.{union_step}
-use Rattle.step_laws.proofs.steps.union_steps.Goals as goal
-
-pub returns : goal.returns
-returns c = union_step

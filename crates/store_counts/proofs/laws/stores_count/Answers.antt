@@ -1,5 +1,0 @@
-use Rattle.store_counts.proofs.Constants.{tables-counted}
-use Rattle.store_counts.proofs.laws.stores_count.Goals as goal
-
-pub returns : goal.returns
-returns c = tables-counted

@@ -1,7 +1,0 @@
-use Rattle.std.proofs.Common.{◌≡◌, take}
-use Rattle.standing_meaning.specs.Dictionary.{entries_of}
-use Rattle.facts_meaning.specs.Facts.{ids_told}
-use Rattle.store_facts.proofs.ids.ids_of.Given as goal
-
-abbrev pub invariant-loop-at : goal.invariant-loop-at
-invariant-loop-at l = l.pairs.items ≡ ids_told (entries_of l.book) (take l.at l.terms)

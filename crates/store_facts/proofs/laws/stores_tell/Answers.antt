@@ -1,8 +1,0 @@
-use Rattle.store_facts.proofs.Told.{facts-told, ids-told}
-use Rattle.store_facts.proofs.laws.stores_tell.Goals as goal
-
-pub returns-clause-facts : goal.returns-clause-facts
-returns-clause-facts c = facts-told
-
-pub returns-clause-ids : goal.returns-clause-ids
-returns-clause-ids c = ids-told

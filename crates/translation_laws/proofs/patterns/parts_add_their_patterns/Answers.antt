@@ -1,5 +1,0 @@
-use Rattle.translation_laws.specs.TreePatterns.{patterns-take}
-use Rattle.translation_laws.proofs.patterns.parts_add_their_patterns.Goals as goal
-
-pub returns : goal.returns
-returns c = patterns-take

@@ -4,7 +4,7 @@ use Rattle.std.specs.Fmt.{digits}
 use Rattle.std.specs.List.{list_all}
 use Rattle.std.proofs.lemmas.Bool.{and_parts}
 use Rattle.table_meaning.specs.Names.{is_name, body_words, source_words, order_words, value_words, test_words, case_words}
-use Rattle.table_meaning.specs.TableText.{is_plain_column, is_plain_table}
+use Rattle.table_text_meaning.specs.TableText.{is_plain_column, is_plain_table}
 use Rattle.table_meaning.specs.Tables.{NamedTable}
 use Rattle.rdf_meaning.specs.Terms.{RdfTerm}
 use Rattle.layout_meaning.specs.Facts.{FactsOf}

@@ -1,7 +1,7 @@
 -- What the reader answers, beside what the lines say.
 use Rattle.std.specs.Prelude.{ℕ, List, [], Option, Some, None, Result, Ok, Err}
 use Rattle.std.specs.Borrow.{Bor}
-use Rattle.rdf_terms.specs.declared.side.SideName.{SideName}
+use Rattle.rdf_meaning.specs.declared.side.SideName.{SideName}
 use Rattle.line_meaning.specs.Lines.{Line}
 use Rattle.line_meaning.specs.Changes as refused
 use Rattle.nt_lines.specs.declared.refusal.LineRefusal.{LineRefusal}

@@ -4,8 +4,7 @@ ghost use Rattle.std.specs.Prelude.{◌≡◌, ◌∷◌, ◌++◌, [], map, OnO
 ghost use Rattle.colouring_file.specs.Colours.{colour_of, has_place};
 
 use crate::places::note;
-use rdf_meaning::Text;
-use rdf_terms::SideName;
+use rdf_meaning::{SideName, Text};
 use std::alloc::{AllocError, Global};
 use std::collections::HashSet;
 use std::marker::Model;

@@ -9,8 +9,7 @@ ghost use Rattle.colouring_file.specs.Readings.{front_side, reading};
 
 use crate::colours::ColourLine;
 use nt_lines::{after_blanks, after_char, chars_of, iri_at, is_end, text_of_chars};
-use rdf_meaning::text_of;
-use rdf_terms::SideName;
+use rdf_meaning::{SideName, text_of};
 use rel_cells::read_int;
 use std::alloc::{AllocError, Global};
 use std::str;

@@ -3,11 +3,10 @@
 ghost use Rattle.std.specs.Prelude.{◌≡◌, ◌&&◌, ◌||◌, ℕ, List, nat_eq, OnOk, OnErr};
 ghost use Rattle.std.specs.HashSet.{contains};
 ghost use Rattle.std.specs.Cmp.Lexicographic.{pointwise};
-ghost use Rattle.rdf_terms.specs.declared.side.SideName.TheVariants.{Direct, Reverse};
+ghost use Rattle.rdf_meaning.specs.declared.side.SideName.TheVariants.{Direct, Reverse};
 ghost use Rattle.colouring_file_meaning.specs.ColourLines.{same_side};
 
-use rdf_meaning::Text;
-use rdf_terms::SideName;
+use rdf_meaning::{SideName, Text};
 use std::alloc::AllocError;
 use std::collections::HashSet;
 

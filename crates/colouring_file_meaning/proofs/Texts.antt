@@ -7,8 +7,8 @@ use Rattle.std.specs.Cmp.Lexicographic.{pointwise, nat_list_eq_equiv}
 use Rattle.std.proofs.lemmas.Bool.Decides.{nat_tests}
 use Rattle.std.proofs.lemmas.Cmp.{on_equiv, and_equiv}
 use Rattle.std.proofs.lemmas.Map.Keys.{IsDistinct-push}
-use Rattle.rdf_terms.specs.declared.side.SideName.{SideName}
-use Rattle.rdf_terms.specs.declared.side.SideName.TheVariants.{Direct, Reverse}
+use Rattle.rdf_meaning.specs.declared.side.SideName.{SideName}
+use Rattle.rdf_meaning.specs.declared.side.SideName.TheVariants.{Direct, Reverse}
 use Rattle.line_meaning.specs.Lines.{Line, lines_of}
 use Rattle.line_meaning.specs.Changes.{Refused, TooLong, Bad}
 use Rattle.colouring_file_meaning.specs.ColourLines.{ColourOf, columns_on, same_side, same_place, given_by, Fits, ColourReadsAs, ColourLinesRead, IsColourRefusedFor, FirstColourRefused, AreFit}

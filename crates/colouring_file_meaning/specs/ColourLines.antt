@@ -3,8 +3,8 @@ use Rattle.std.specs.Prelude.{◌≡◌, ◌≤◌, ◌<◌, ◌⊎◌, ◌+◌,
 use Rattle.std.specs.List.{list_any, AllByRecursion, IsDistinct}
 use Rattle.std.specs.Str.{IsUtf8, chars}
 use Rattle.std.specs.Cmp.Lexicographic.{pointwise}
-use Rattle.rdf_terms.specs.declared.side.SideName.{SideName}
-use Rattle.rdf_terms.specs.declared.side.SideName.TheVariants.{Direct, Reverse}
+use Rattle.rdf_meaning.specs.declared.side.SideName.{SideName}
+use Rattle.rdf_meaning.specs.declared.side.SideName.TheVariants.{Direct, Reverse}
 use Rattle.table_meaning.specs.Ints.{SpellsInt}
 use Rattle.line_meaning.specs.declared.enclosure.Enclosure.TheVariants.{Iri}
 use Rattle.line_meaning.specs.Grammar.{Encloses, SpellsNothing}

@@ -2,8 +2,8 @@
 use Rattle.std.specs.Prelude.{ℕ, zero, suc, ℤ, pos, negsuc, Bool, false, ◌==◌, nat_lt, if◌then◌else◌, List, [], ◌∷◌, ◌++◌, length, Option, Some, None, option_map, Result, Ok, Err, encode_utf8_all}
 use Rattle.std.specs.List.{list_any}
 use Rattle.std.specs.Str.{is_utf8, chars}
-use Rattle.rdf_terms.specs.declared.side.SideName.{SideName}
-use Rattle.rdf_terms.specs.declared.side.SideName.TheVariants.{Direct, Reverse}
+use Rattle.rdf_meaning.specs.declared.side.SideName.{SideName}
+use Rattle.rdf_meaning.specs.declared.side.SideName.TheVariants.{Direct, Reverse}
 use Rattle.table_meaning.specs.Ints.{int_of}
 use Rattle.line_meaning.specs.Lines.{Line, lines_of}
 use Rattle.line_meaning.specs.Reader.{◌>>=◌, after_blanks, after_char, is_end, iri_at}

@@ -2,7 +2,7 @@
 use Rattle.std.proofs.Common.{◌≡◌, ℕ, ◌<◌, ◌≤◌, List, [], ◌∷◌, ◌++◌, true, false, refl, sym, subst, inl, inr, arith}
 use Rattle.std.specs.Prelude.{Option, Some, None, Result, Ok, Err, IfOk, IfErr, OnOk, IfSome, IsOkAnd, IsTrue, is_ok, nat_lt, length}
 use Rattle.std.proofs.lemmas.Bool.{lt-ltb, le-ltb}
-use Rattle.line_meaning.specs.declared.change.Change.{Change}
+use Rattle.line_change_meaning.specs.declared.change.Change.{Change}
 use Rattle.line_meaning.specs.Changes.{changes_of}
 use Rattle.line_change_laws.proofs.Counts.{few}
 use Rattle.colouring_file_meaning.specs.ColourLines.{ColourOf}

@@ -9,9 +9,9 @@ ghost use Rattle.run_outcome_meaning.specs.Refusal.{RefusedAs};
 ghost use Rattle.db2rdf_top.specs.Stops.{GivesColours, HasColours, ColouringStops, Stops};
 
 use colouring_file::{ColourLine, read_colouring};
-use line_meaning::Change;
+use line_change_meaning::Change;
 use nt_lines::{LineRefusal, read_changes};
-use rdf_terms::text_of;
+use rdf_meaning::text_of;
 use run_meaning::{Layout, Options, Status, Which};
 use std::alloc::Global;
 use store_io::{Shelf, ShelfError, Taken};

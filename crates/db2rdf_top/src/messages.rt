@@ -6,7 +6,7 @@ ghost use Rattle.run_outcome_meaning.specs.Causes.{Told};
 ghost use Rattle.db2rdf_top.specs.Stops.{NamesSomething};
 
 use itoa::Buffer;
-use rdf_terms::Text;
+use rdf_meaning::Text;
 use run_meaning::{QueryFault, SqlFault, Status, Which};
 use sparql_meaning::Feature;
 use std::alloc::{AllocError, Global};

@@ -15,7 +15,7 @@ ghost use Rattle.db2rdf_top.specs.Stops.{FitsAsked, Refuses, Puts};
 use crate::files::{accept_colours, read_colours, read_data, read_query, read_tables_and_sql};
 use crate::messages::tell;
 use colouring_file::ColourLine;
-use line_meaning::Change;
+use line_change_meaning::Change;
 use rdf_triples::LoadRefusal;
 use run_exec::script_text;
 use run_meaning::{Command, Options, Status};

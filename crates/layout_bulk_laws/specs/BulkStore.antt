@@ -1,7 +1,7 @@
 -- The store of a bulk of triples (this project's own).
 use Rattle.std.specs.Prelude.{ℕ, ◌<◌, List, [], fold, map, length}
 use Rattle.rdf_meaning.specs.Terms.{RdfTerm, RdfTriple}
-use Rattle.line_meaning.specs.Present.{with_triple}
+use Rattle.line_change_meaning.specs.Present.{with_triple}
 use Rattle.layout_meaning.specs.Columns.{ColumnsOf, candidates_of}
 use Rattle.layout_meaning.specs.Side.{Item, first_of}
 use Rattle.layout_standing_meaning.specs.Schemas.{LayoutOf}

@@ -1,7 +1,7 @@
 -- What is chosen of a layout, and when it is refused (this project's own).
 use Rattle.std.specs.Prelude.{ℕ, Bool, true, false, if◌then◌else◌, List, [], ◌∷◌, map, Option, None, Some}
-use Rattle.rdf_terms.specs.declared.side.SideName.{SideName}
-use Rattle.rdf_terms.specs.declared.side.SideName.TheVariants.{Direct, Reverse}
+use Rattle.rdf_meaning.specs.declared.side.SideName.{SideName}
+use Rattle.rdf_meaning.specs.declared.side.SideName.TheVariants.{Direct, Reverse}
 use Rattle.layout_meaning.specs.Columns.{ColumnsOf}
 use Rattle.layout_columns_meaning.specs.Layouts.{ChoiceOf}
 use Rattle.pred_columns.specs.declared.columns.ColourPair.{ColourPair}

@@ -6,7 +6,7 @@ ghost use Rattle.layout_choice.specs.Chosen.{choice_made, refusal_chosen, colour
 use crate::pairs::known_pairs;
 use colouring_file::ColourLine;
 use pred_columns::{ColumnRefusal, Columns};
-use rdf_terms::SideName;
+use rdf_meaning::SideName;
 use std::alloc::Global;
 use std::marker::Model;
 

@@ -7,7 +7,7 @@ ghost use Rattle.layout_choice.specs.Chosen.{pair_of, pairs_on, known_pairs};
 use crate::choice::ColourWay;
 use colouring_file::ColourLine;
 use pred_columns::ColourPair;
-use rdf_terms::SideName;
+use rdf_meaning::SideName;
 use std::alloc::{AllocError, Global};
 
 /// Puts the pair of a line last, if it is one of the side.

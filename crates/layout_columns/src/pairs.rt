@@ -8,7 +8,7 @@ ghost use Rattle.pred_columns.specs.Refusal.{known_of};
 
 use pred_colour::Coloured;
 use pred_columns::ColourPair;
-use rdf_terms::TermId;
+use rdf_meaning::TermId;
 use std::alloc::{AllocError, Global};
 use term_book::TermBook;
 

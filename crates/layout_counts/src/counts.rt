@@ -8,7 +8,7 @@ ghost use Rattle.layout_counts_meaning.specs.Counts.{count_of, counts_over};
 use layout_facts::id_of;
 use layout_sides::TripleSides;
 use pred_columns::{ConstCount, Counts};
-use rdf_terms::Term;
+use rdf_meaning::Term;
 use std::alloc::{AllocError, Global};
 use term_book::TermBook;
 

@@ -7,7 +7,7 @@ ghost use Rattle.layout_standing_meaning.specs.Dictionary.{entries_of, id_of};
 ghost use Rattle.layout_facts_meaning.specs.Facts.{id_told, ids_told};
 
 use pred_columns::{IdPair, QueryIds};
-use rdf_terms::Term;
+use rdf_meaning::Term;
 use std::alloc::{AllocError, Global};
 use term_book::TermBook;
 

@@ -12,7 +12,7 @@ ghost use Rattle.layout_facts.specs.Kept.{AreIdsOf};
 
 use indexmap::IndexSet;
 use primary_rows::Side;
-use rdf_terms::Term;
+use rdf_meaning::Term;
 use std::alloc::{AllocError, Global};
 use term_book::TermBook;
 

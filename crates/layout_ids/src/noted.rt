@@ -7,7 +7,7 @@ ghost use Rattle.term_book.specs.Book.{HasId};
 ghost use Rattle.layout_ids.specs.Noted.{HaveIds, LacksTerm};
 
 use layout_sides::IdTriple;
-use rdf_terms::{Term, TermId, Triple};
+use rdf_meaning::{Term, TermId, Triple};
 use std::alloc::Global;
 use term_book::{BookRefusal, TermBook};
 

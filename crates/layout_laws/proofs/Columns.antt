@@ -6,8 +6,8 @@ use Rattle.std.specs.Map.{keys_of}
 use Rattle.std.proofs.lemmas.List.Elements.{All-from_recursion}
 use Rattle.bags.specs.BagLaws.{each-map}
 use Rattle.rdf_meaning.specs.Terms.{RdfTerm}
-use Rattle.rdf_terms.specs.declared.side.SideName.{SideName}
-use Rattle.rdf_terms.specs.declared.side.SideName.TheVariants.{Direct, Reverse}
+use Rattle.rdf_meaning.specs.declared.side.SideName.{SideName}
+use Rattle.rdf_meaning.specs.declared.side.SideName.TheVariants.{Direct, Reverse}
 use Rattle.colouring_file_meaning.specs.ColourLines.{ColourOf, columns_on, same_side, AreFit}
 use Rattle.run_meaning.specs.declared.command.Layout.{Layout}
 use Rattle.run_meaning.specs.declared.command.Layout.TheVariants.{Colour, Hash, File}

@@ -9,8 +9,8 @@ use Rattle.std.specs.Map.{lookup, keys_of}
 use Rattle.std.proofs.lemmas.Bool.{and_parts, or_left, or_right}
 use Rattle.std.proofs.lemmas.List.Kept.{IsStrictlySortedBy-filter}
 use Rattle.rdf_meaning.specs.Terms.{RdfTerm}
-use Rattle.line_meaning.specs.declared.change.Change.{Change}
-use Rattle.line_meaning.specs.Present.{named, bulk}
+use Rattle.line_change_meaning.specs.declared.change.Change.{Change}
+use Rattle.line_change_meaning.specs.Present.{named, bulk}
 use Rattle.run_meaning.specs.declared.command.Options.{Options}
 use Rattle.colouring_file_meaning.specs.ColourLines.{ColourOf}
 use Rattle.layout_meaning.specs.Columns.{ColumnsOf}

@@ -1,8 +1,8 @@
 -- The layout of a bulk under a choice.
 use Rattle.std.proofs.Common.{◌≡◌, ℕ, Bool, true, false, List, map, sym, ap, ◌∙◌}
 use Rattle.rdf_meaning.specs.Terms.{RdfTerm}
-use Rattle.line_meaning.specs.declared.change.Change.{Change}
-use Rattle.line_meaning.specs.Present.{named, bulk}
+use Rattle.line_change_meaning.specs.declared.change.Change.{Change}
+use Rattle.line_change_meaning.specs.Present.{named, bulk}
 use Rattle.run_meaning.specs.declared.command.Options.{Options}
 use Rattle.colouring_file_meaning.specs.ColourLines.{ColourOf}
 use Rattle.layout_meaning.specs.Columns.{ColumnsOf}

@@ -3,8 +3,8 @@ use Rattle.std.proofs.Common.{◌≡◌, ℕ, zero, suc, List, [], ◌∷◌, sy
 use Rattle.bags.specs.Bag.{SameBag}
 use Rattle.bags.specs.BagLaws.{same-sym, same-trans}
 use Rattle.rdf_meaning.specs.Terms.{RdfTriple}
-use Rattle.line_meaning.specs.declared.change.Change.{Change}
-use Rattle.line_meaning.specs.Present.{present}
+use Rattle.line_change_meaning.specs.declared.change.Change.{Change}
+use Rattle.line_change_meaning.specs.Present.{present}
 use Rattle.run_meaning.specs.declared.command.Options.{Options}
 use Rattle.colouring_file_meaning.specs.ColourLines.{ColourOf}
 use Rattle.table_meaning.specs.declared.cell.Cell.{Cell}

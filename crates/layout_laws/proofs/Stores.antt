@@ -4,9 +4,9 @@ use Rattle.std.specs.List.{AllByRecursion, IsDistinct}
 use Rattle.bags.specs.Bag.{SameBag}
 use Rattle.bags.specs.BagLaws.{same-refl, same-sym, same-trans, same-map, same-append, same-any, same-rest}
 use Rattle.rdf_meaning.specs.Terms.{RdfTerm, RdfTriple, same_term, same_triple}
-use Rattle.line_meaning.specs.declared.change.Change.{Change}
-use Rattle.line_meaning.specs.declared.change.Change.TheVariants.{Add, Delete}
-use Rattle.line_meaning.specs.Present.{named, bulk, is_present, present}
+use Rattle.line_change_meaning.specs.declared.change.Change.{Change}
+use Rattle.line_change_meaning.specs.declared.change.Change.TheVariants.{Add, Delete}
+use Rattle.line_change_meaning.specs.Present.{named, bulk, is_present, present}
 use Rattle.line_change_laws.proofs.Present.{present_members, present_added, present_deleted, adds_present}
 use Rattle.layout_meaning.specs.Side.{Item, items}
 use Rattle.layout_meaning.specs.Sound.{IsSound}

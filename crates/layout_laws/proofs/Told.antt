@@ -4,8 +4,8 @@ use Rattle.std.specs.List.{list_any, filter, flat_map}
 use Rattle.std.specs.Ordering.{nat_cmp}
 use Rattle.std.proofs.lemmas.Bool.{or_right}
 use Rattle.std.proofs.lemmas.List.Kept.{IsStrictlySortedBy-filter}
-use Rattle.line_meaning.specs.declared.change.Change.{Change}
-use Rattle.line_meaning.specs.Present.{named, bulk, present}
+use Rattle.line_change_meaning.specs.declared.change.Change.{Change}
+use Rattle.line_change_meaning.specs.Present.{named, bulk, present}
 use Rattle.run_meaning.specs.declared.command.Options.{Options}
 use Rattle.colouring_file_meaning.specs.ColourLines.{ColourOf, AreFit}
 use Rattle.run_command_laws.specs.Ranges.{AreInRange}

@@ -5,8 +5,8 @@
 ghost use Rattle.std.specs.Prelude.{◌≡◌, ℕ, List};
 ghost use Rattle.std.specs.List.{AllByRecursion};
 ghost use Rattle.rdf_meaning.specs.Terms.{RdfTerm, RdfTriple};
-ghost use Rattle.line_meaning.specs.declared.change.Change.{Change};
-ghost use Rattle.line_meaning.specs.Present.{named};
+ghost use Rattle.line_change_meaning.specs.declared.change.Change.{Change};
+ghost use Rattle.line_change_meaning.specs.Present.{named};
 ghost use Rattle.run_meaning.specs.declared.command.Options.{Options};
 ghost use Rattle.colouring_file_meaning.specs.ColourLines.{ColourOf, AreFit};
 ghost use Rattle.run_command_laws.specs.Ranges.{AreInRange};

@@ -7,7 +7,7 @@ use Rattle.bags.specs.BagLaws.{same-length}
 use Rattle.bags.specs.Sort.{sort}
 use Rattle.bags.specs.SortLaws.{sort-bag}
 use Rattle.rdf_meaning.specs.Terms.{RdfTriple, same_triple}
-use Rattle.line_meaning.specs.Present.{with_triple}
+use Rattle.line_change_meaning.specs.Present.{with_triple}
 use Rattle.layout_meaning.specs.Columns.{ColumnsOf, candidates_of}
 use Rattle.layout_meaning.specs.Rows.{SideOf, placed_in}
 use Rattle.layout_meaning.specs.declared.value.Value.{Value}

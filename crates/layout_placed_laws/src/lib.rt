@@ -5,9 +5,9 @@ ghost use Rattle.std.specs.Prelude.{◌≡◌, ◌≤◌, List, ◌∷◌, map, 
 ghost use Rattle.bags.specs.Bag.{SameBag};
 ghost use Rattle.rdf_meaning.specs.Terms.{RdfTriple};
 ghost use Rattle.table_meaning.specs.Tables.{NamedTable};
-ghost use Rattle.line_meaning.specs.declared.change.Change.{Change};
-ghost use Rattle.line_meaning.specs.declared.change.Change.TheVariants.{Add, Delete};
-ghost use Rattle.line_meaning.specs.Present.{named, bulk};
+ghost use Rattle.line_change_meaning.specs.declared.change.Change.{Change};
+ghost use Rattle.line_change_meaning.specs.declared.change.Change.TheVariants.{Add, Delete};
+ghost use Rattle.line_change_meaning.specs.Present.{named, bulk};
 ghost use Rattle.layout_standing_meaning.specs.Schemas.{LayoutOf};
 ghost use Rattle.layout_standing_meaning.specs.Stored.{layout_of};
 ghost use Rattle.layout_bulk_laws.specs.BulkStore.{bulk_store};

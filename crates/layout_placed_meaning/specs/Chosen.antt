@@ -1,10 +1,10 @@
 -- The layout that a command's options ask for (this project's own).
 use Rattle.std.specs.Prelude.{ℕ, Bool, true, false, if◌then◌else◌, List, [], ◌∷◌, map}
 use Rattle.rdf_meaning.specs.Terms.{RdfTriple}
-use Rattle.rdf_terms.specs.declared.side.SideName.{SideName}
-use Rattle.rdf_terms.specs.declared.side.SideName.TheVariants.{Direct, Reverse}
-use Rattle.line_meaning.specs.declared.change.Change.{Change}
-use Rattle.line_meaning.specs.Present.{named, bulk}
+use Rattle.rdf_meaning.specs.declared.side.SideName.{SideName}
+use Rattle.rdf_meaning.specs.declared.side.SideName.TheVariants.{Direct, Reverse}
+use Rattle.line_change_meaning.specs.declared.change.Change.{Change}
+use Rattle.line_change_meaning.specs.Present.{named, bulk}
 use Rattle.colouring_file_meaning.specs.ColourLines.{ColourOf, same_side}
 use Rattle.run_meaning.specs.declared.command.Layout.{Layout}
 use Rattle.run_meaning.specs.declared.command.Layout.TheVariants.{Colour, Hash, File}

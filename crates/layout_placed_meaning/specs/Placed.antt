@@ -1,9 +1,9 @@
 -- The tables that a layout gives for a list of changes (this project's own).
 use Rattle.std.specs.Prelude.{List, [], ◌∷◌, map, fold, if◌then◌else◌}
 use Rattle.table_meaning.specs.Tables.{NamedTable}
-use Rattle.line_meaning.specs.declared.change.Change.{Change}
-use Rattle.line_meaning.specs.declared.change.Change.TheVariants.{Add, Delete}
-use Rattle.line_meaning.specs.Present.{named, is_delete, bulk}
+use Rattle.line_change_meaning.specs.declared.change.Change.{Change}
+use Rattle.line_change_meaning.specs.declared.change.Change.TheVariants.{Add, Delete}
+use Rattle.line_change_meaning.specs.Present.{named, is_delete, bulk}
 use Rattle.layout_standing_meaning.specs.Schemas.{LayoutOf}
 use Rattle.layout_standing_meaning.specs.Stored.{StoreOf, tables_of}
 use Rattle.layout_standing_meaning.specs.Changes.{stored_in, taken_out}

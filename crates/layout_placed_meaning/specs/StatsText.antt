@@ -1,7 +1,7 @@
 -- The text of the statistics of changes.
 use Rattle.std.specs.Prelude.{◌≡◌, ℕ, List}
-use Rattle.line_meaning.specs.declared.change.Change.{Change}
-use Rattle.line_meaning.specs.Present.{present}
+use Rattle.line_change_meaning.specs.declared.change.Change.{Change}
+use Rattle.line_change_meaning.specs.Present.{present}
 use Rattle.layout_standing_meaning.specs.Schemas.{LayoutOf}
 use Rattle.layout_stats_meaning.specs.Statistics.{StatsOf, AreStats, stats_text}
 use Rattle.layout_placed_meaning.specs.Placed.{placed_tables}

@@ -4,7 +4,7 @@ ghost use Rattle.std.specs.Prelude.{◌≡◌, ◌≤◌, ◌++◌, ◌+◌, ◌
 ghost use Rattle.std.specs.Fmt.{decimal};
 ghost use Rattle.layout_standing_meaning.specs.Schemas.{pair_columns, primary_schema, list_schema, term_schema};
 
-use rdf_terms::{Text, text_of};
+use rdf_meaning::{Text, text_of};
 use rel_cells::{Column, Kind, Schema};
 use std::alloc::{AllocError, Global};
 

@@ -9,8 +9,7 @@ ghost use Rattle.primary_rows.specs.Answers.{took_of};
 ghost use Rattle.layout_sides.specs.Items.{item_of};
 
 use primary_rows::{Side, SideRefusal, Took};
-use rdf_meaning::Text;
-use rdf_terms::TermId;
+use rdf_meaning::{TermId, Text};
 use std::alloc::Global;
 use std::marker::Model;
 use value_lists::Put;

@@ -5,7 +5,7 @@ use Rattle.table_meaning.specs.declared.cell.Cell.{Cell}
 use Rattle.table_meaning.specs.declared.cell.Cell.TheVariants.{Null, Int, Text}
 use Rattle.table_meaning.specs.Tables.{NamedTable}
 use Rattle.rdf_meaning.specs.Terms.{RdfTerm, RdfTriple}
-use Rattle.rdf_meaning.specs.Values.{class_of, value_of}
+use Rattle.rdf_value_meaning.specs.Values.{class_of, value_of}
 use Rattle.layout_meaning.specs.declared.value.Value.{Value}
 use Rattle.layout_meaning.specs.declared.value.Value.TheVariants.{One, Many}
 use Rattle.layout_meaning.specs.Side.{Pair, Item, ValueLists, SideState, pair_items}

@@ -4,7 +4,7 @@ use Rattle.std.specs.List.{flat_map, list_all, AllByRecursion}
 use Rattle.std.proofs.lemmas.List.Folds.{list_all-append}
 use Rattle.bags.specs.BagLaws.{each-weaker}
 use Rattle.rdf_meaning.specs.Terms.{RdfTerm}
-use Rattle.rdf_meaning.specs.Values.{value_of}
+use Rattle.rdf_value_meaning.specs.Values.{value_of}
 use Rattle.table_meaning.specs.declared.kind.Kind.TheVariants as kinds
 use Rattle.table_meaning.specs.Schemas.{is_schema}
 use Rattle.table_meaning.specs.Tables.{has_kind, NamedTable, is_row, are_rows, is_table_set}

@@ -12,7 +12,8 @@ ghost use Rattle.layout_elements.specs.ElementRows.{element_row};
 
 use layout_elements::Element;
 use primary_rows::{Pair, RowView};
-use rdf_terms::{Term, TermId, class_of, number_of};
+use rdf_meaning::{Term, TermId};
+use rdf_terms::{class_of, number_of};
 use rel_cells::CellView;
 use term_book::TermBook;
 

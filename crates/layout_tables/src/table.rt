@@ -8,7 +8,7 @@ ghost use Rattle.layout_tables.specs.Shown.{shown_rows};
 use crate::cells::{element_cell, primary_cell, term_cell};
 use layout_elements::Element;
 use primary_rows::RowView;
-use rdf_terms::Text;
+use rdf_meaning::Text;
 use rel_cells::{CellView, Schema};
 use std::marker::Model;
 use term_book::TermBook;

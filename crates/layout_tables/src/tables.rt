@@ -21,7 +21,7 @@ use layout_elements::{Element, elements};
 use layout_schemas::{list_schema, primary_schema, term_schema};
 use layout_sides::TripleSides;
 use primary_rows::{RowView, Side};
-use rdf_terms::{Text, text_of};
+use rdf_meaning::{Text, text_of};
 use rel_cells::{CellView, Schema, TableSet};
 use std::alloc::{AllocError, Global};
 use std::marker::Model;

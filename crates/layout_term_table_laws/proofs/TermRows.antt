@@ -7,7 +7,7 @@ use Rattle.bags.specs.Bag.{total}
 use Rattle.bags.specs.BagLaws.{total-map, total-same}
 use Rattle.rdf_meaning.specs.Terms.{RdfTerm, same_term}
 use Rattle.rdf_meaning.specs.TermLaws.{same_term-is}
-use Rattle.rdf_meaning.specs.Values.{class_of, value_of}
+use Rattle.rdf_value_meaning.specs.Values.{class_of, value_of}
 use Rattle.layout_meaning.specs.Sound.{one_if}
 use Rattle.table_meaning.specs.declared.cell.Cell.{Cell}
 use Rattle.table_meaning.specs.declared.cell.Cell.TheVariants.{Int, Text}

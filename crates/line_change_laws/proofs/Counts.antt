@@ -1,7 +1,7 @@
 -- How many changes a text has.
 use Rattle.std.proofs.Common.{◌≡◌, ℕ, suc, ◌+◌, ◌≤◌, ◌==◌, Bool, true, false, if◌then◌else◌, List, [], ◌∷◌, length, length-append, Option, Some, None, Result, Ok, Err, arith, subst, nat_lt}
 use Rattle.std.specs.Prelude.{IfOk}
-use Rattle.line_meaning.specs.declared.change.Change.{Change}
+use Rattle.line_change_meaning.specs.declared.change.Change.{Change}
 use Rattle.line_meaning.specs.Lines.{Line, onto_first, lines_from, lines_of, Reading, Nothing, Adds, Deletes}
 use Rattle.line_meaning.specs.Reader.{reading_of}
 use Rattle.line_meaning.specs.Changes.{Refused, TooLong, says, line_changes, then_changes, changes_in, changes_of}

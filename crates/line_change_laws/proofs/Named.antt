@@ -8,8 +8,8 @@ use Rattle.std.proofs.lemmas.List.{map-append}
 use Rattle.std.proofs.lemmas.Map.Keys.{IsDistinct-push}
 use Rattle.rdf_meaning.specs.Terms.{RdfTriple, same_triple}
 use Rattle.rdf_meaning.specs.TermLaws.{same_triple-is, same_triple-self, same_triple_equiv}
-use Rattle.line_meaning.specs.declared.change.Change.{Change}
-use Rattle.line_meaning.specs.Present.{named, says_of, with_triple, all_named}
+use Rattle.line_change_meaning.specs.declared.change.Change.{Change}
+use Rattle.line_change_meaning.specs.Present.{named, says_of, with_triple, all_named}
 
 any_left : {X : Type 0} (p : X → Bool) (xs ys : List X) → list_any p xs ≡ true → list_any p (xs ++ ys) ≡ true
 any_left p xs ys e = rw (list_any-append p xs ys, e) refl

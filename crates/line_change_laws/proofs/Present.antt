@@ -9,9 +9,9 @@ use Rattle.bags.specs.Bag.{total, SameBag}
 use Rattle.bags.specs.BagLaws.{total-append, total-filter, each-filter}
 use Rattle.rdf_meaning.specs.Terms.{RdfTriple, same_triple}
 use Rattle.rdf_meaning.specs.TermLaws.{same_triple-is, same_triple-self, same_triple_equiv}
-use Rattle.line_meaning.specs.declared.change.Change.{Change}
-use Rattle.line_meaning.specs.declared.change.Change.TheVariants.{Add, Delete}
-use Rattle.line_meaning.specs.Present.{named, is_add, says_of, is_present, with_triple, all_named, present}
+use Rattle.line_change_meaning.specs.declared.change.Change.{Change}
+use Rattle.line_change_meaning.specs.declared.change.Change.TheVariants.{Add, Delete}
+use Rattle.line_change_meaning.specs.Present.{named, is_add, says_of, is_present, with_triple, all_named, present}
 use Rattle.line_change_laws.proofs.Named.{named_has, unnamed, named_distinct, named_next}
 
 and_false : (a b : Bool) → b ≡ false → (a && b) ≡ false

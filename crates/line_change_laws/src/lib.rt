@@ -5,9 +5,9 @@ ghost use Rattle.std.specs.Prelude.{◌≡◌, ℕ, ◌+◌, ◌≤◌, List, []
 ghost use Rattle.std.specs.List.{list_any, IsDistinct};
 ghost use Rattle.bags.specs.Bag.{SameBag};
 ghost use Rattle.rdf_meaning.specs.Terms.{RdfTriple, same_triple};
-ghost use Rattle.line_meaning.specs.declared.change.Change.{Change};
-ghost use Rattle.line_meaning.specs.declared.change.Change.TheVariants.{Add, Delete};
-ghost use Rattle.line_meaning.specs.Present.{is_present, with_triple, present};
+ghost use Rattle.line_change_meaning.specs.declared.change.Change.{Change};
+ghost use Rattle.line_change_meaning.specs.declared.change.Change.TheVariants.{Add, Delete};
+ghost use Rattle.line_change_meaning.specs.Present.{is_present, with_triple, present};
 ghost use Rattle.line_meaning.specs.Changes.{changes_of};
 
 /// The triples that are present are those that the last change that names them adds, each once.

@@ -2,7 +2,7 @@
 use Rattle.std.proofs.Common.{◌≡◌, ◌<◌, ◌≤◌, ℕ, inl, inr, Bool, true, false, cond, List, [], ◌∷◌, ◌++◌, length, refl, subst, arith, Some, None, Option}
 use Rattle.std.specs.Prelude.{Result, Ok, Err, nat_lt}
 use Rattle.std.proofs.lemmas.Bool.Decides.{nat_tests}
-use Rattle.line_meaning.specs.declared.change.Change.{Change}
+use Rattle.line_change_meaning.specs.declared.change.Change.{Change}
 use Rattle.line_meaning.specs.Lines.{Line, lines_of, Reading}
 use Rattle.line_meaning.specs.Reader.{reading_of}
 use Rattle.line_meaning.specs.Changes.{Refused, TooLong, Bad, changes_by, says, line_changes, then_changes, changes_in}

@@ -1,6 +1,6 @@
 -- What holds of the readings of lines and of texts.
 use Rattle.std.specs.Prelude.{◌≡◌, ◌<◌, ◌≤◌, ◌⊎◌, ℕ, List, [], ◌∷◌, ◌++◌, length, Some, Ok, Err}
-use Rattle.line_meaning.specs.declared.change.Change.{Change}
+use Rattle.line_change_meaning.specs.declared.change.Change.{Change}
 use Rattle.line_meaning.specs.Lines.{Line, lines_of, Reading}
 use Rattle.line_meaning.specs.Grammar.{LineReads}
 use Rattle.line_meaning.specs.Reader.{reading_of}

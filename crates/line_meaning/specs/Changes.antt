@@ -2,8 +2,8 @@
 use Rattle.std.specs.Prelude.{ℕ, List, [], ◌∷◌, ◌++◌, length, Option, Some, None, Result, Ok, Err, nat_lt, if◌then◌else◌}
 use Rattle.line_meaning.specs.Lines.{Line, lines_of, Reading, Nothing, Adds, Deletes}
 use Rattle.line_meaning.specs.Reader.{reading_of}
-use Rattle.line_meaning.specs.declared.change.Change.{Change}
-use Rattle.line_meaning.specs.declared.change.Change.TheVariants.{Add, Delete}
+use Rattle.line_change_meaning.specs.declared.change.Change.{Change}
+use Rattle.line_change_meaning.specs.declared.change.Change.TheVariants.{Add, Delete}
 
 -- the first line that is refused
 pub data Refused : Type 0 where

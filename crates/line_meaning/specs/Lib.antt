@@ -3,4 +3,3 @@ pub mod Lines
 pub mod Grammar
 pub mod Reader
 pub mod Changes
-pub mod Present

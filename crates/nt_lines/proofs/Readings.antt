@@ -1,7 +1,7 @@
 -- What is computed is what the grammar says.
 use Rattle.std.proofs.Common.{ℕ, List}
 use Rattle.std.specs.Prelude.{Result, Ok, Err}
-use Rattle.line_meaning.specs.declared.change.Change.{Change}
+use Rattle.line_change_meaning.specs.declared.change.Change.{Change}
 use Rattle.line_meaning.specs.Lines.{lines_of}
 use Rattle.line_meaning.specs.Changes.{changes_of}
 use Rattle.line_meaning.specs.Changes as refused

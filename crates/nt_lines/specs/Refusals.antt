@@ -9,8 +9,8 @@ use Rattle.nt_lines.specs.declared.refusal.LineRefusal.TheVariants.{NoMemory, Ba
 use Rattle.nt_lines.specs.declared.line.Said.{Said}
 use Rattle.nt_lines.specs.declared.line.Said.TheVariants as said
 use Rattle.std.specs.Borrow.{Bor}
-use Rattle.line_meaning.specs.declared.change.Change.{Change}
-use Rattle.line_meaning.specs.declared.change.Change.TheVariants.{Add, Delete}
+use Rattle.line_change_meaning.specs.declared.change.Change.{Change}
+use Rattle.line_change_meaning.specs.declared.change.Change.TheVariants.{Add, Delete}
 
 -- a refusal is the defined one, unless memory ran out
 abbrev pub Refuses : {Y : Type 0} → LineRefusal → Result Y Refused → Type 0

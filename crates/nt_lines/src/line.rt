@@ -9,7 +9,7 @@ ghost use Rattle.nt_lines.specs.Refusals.{reading};
 
 use crate::characters::{after_blanks, after_char, is_blank, is_end};
 use crate::term::{iri_term_at, object_at, subject_at};
-use line_meaning::Change;
+use line_change_meaning::Change;
 use rdf_meaning::Triple;
 use std::alloc::{AllocError, Global};
 use std::str;

@@ -8,8 +8,8 @@ ghost use Rattle.nt_lines.specs.Refusals.{Gives, IsReading, lines_after};
 
 use crate::line::{Said, read_line};
 use crate::refusal::LineRefusal;
+use line_change_meaning::Change;
 use line_laws::lines_are_read;
-use line_meaning::Change;
 use std::alloc::Global;
 
 /// The most bytes that a line may have.

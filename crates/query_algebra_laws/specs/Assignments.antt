@@ -9,8 +9,8 @@ use Rattle.rdf_meaning.specs.Terms.{RdfTerm, RdfTriple, same_term}
 use Rattle.query_meaning.specs.declared.pattern.Slot.{Slot}
 use Rattle.query_meaning.specs.declared.pattern.Slot.TheVariants.{Var, Const}
 use Rattle.query_meaning.specs.declared.pattern.Pattern.{Pattern}
-use Rattle.query_meaning.specs.Mapping.{Mapping, set}
-use Rattle.query_meaning.specs.Leaf.{with_term, terms_of, is_variable, in_pattern, choices, assignments, is_term, slot_is, instance_is, holds}
+use Rattle.query_eval_meaning.specs.Mapping.{Mapping, set}
+use Rattle.query_eval_meaning.specs.Leaf.{with_term, terms_of, is_variable, in_pattern, choices, assignments, is_term, slot_is, instance_is, holds}
 use Rattle.query_algebra_laws.specs.Choices.{Apart}
 
 pub cond-and : (a b : Bool) (n : ℕ) → cond (a && b) n 0 ≡ cond b (cond a n 0) 0

@@ -6,8 +6,8 @@ use Rattle.bags.specs.Bag.{total}
 use Rattle.bags.specs.BagLaws.{total-same, total-plus, total-none, total-map}
 use Rattle.rdf_meaning.specs.Terms.{RdfTerm, same_term}
 use Rattle.rdf_meaning.specs.TermLaws.{same_term-self, same_term_equiv}
-use Rattle.query_meaning.specs.Mapping.{agree, either}
-use Rattle.query_meaning.specs.Leaf.{choices}
+use Rattle.query_eval_meaning.specs.Mapping.{agree, either}
+use Rattle.query_eval_meaning.specs.Leaf.{choices}
 
 -- each term stands once
 abbrev pub Apart : List RdfTerm → Type 0

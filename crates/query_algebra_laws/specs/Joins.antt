@@ -8,9 +8,9 @@ use Rattle.bags.specs.Bag.{total, SameBag}
 use Rattle.bags.specs.BagLaws.{total-same, total-each, total-cond, total-map, total-flat_map, total-filter, total-swap, same-refl, same-map, same-filter, same-flat_map}
 use Rattle.rdf_meaning.specs.Terms.{RdfTerm, same_term}
 use Rattle.rdf_meaning.specs.TermLaws.{same_term-is, same_term-self, same_term_equiv}
-use Rattle.query_meaning.specs.Mapping.{Mapping, nothing, width, agree, agree_below, compatible, either, merge}
-use Rattle.query_meaning.specs.Eval.{join, or_alone, found, left_join}
-use Rattle.query_meaning.specs.Variables.{IsNarrow}
+use Rattle.query_eval_meaning.specs.Mapping.{Mapping, nothing, width, agree, agree_below, compatible, either, merge}
+use Rattle.query_eval_meaning.specs.Eval.{join, or_alone, found, left_join}
+use Rattle.query_eval_meaning.specs.Variables.{IsNarrow}
 use Rattle.query_algebra_laws.specs.MappingLaws.{agreed}
 
 pub same-join : (ls ls' bs bs' : List Mapping) → SameBag ls ls' → SameBag bs bs' → SameBag (join ls bs) (join ls' bs')

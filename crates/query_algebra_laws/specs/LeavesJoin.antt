@@ -9,9 +9,9 @@ use Rattle.bags.specs.Bag.{total, SameBag}
 use Rattle.bags.specs.BagLaws.{same-any, total-same, total-each, total-cond, total-map, total-flat_map, total-filter, total-swap}
 use Rattle.rdf_meaning.specs.Terms.{RdfTerm, RdfTriple}
 use Rattle.query_meaning.specs.declared.pattern.Pattern.{Pattern}
-use Rattle.query_meaning.specs.Mapping.{Mapping, nothing, set, width, agree, agree_below, compatible, either, merge}
-use Rattle.query_meaning.specs.Leaf.{terms_of, in_pattern, choices, assignments, holds, leaf}
-use Rattle.query_meaning.specs.Eval.{join}
+use Rattle.query_eval_meaning.specs.Mapping.{Mapping, nothing, set, width, agree, agree_below, compatible, either, merge}
+use Rattle.query_eval_meaning.specs.Leaf.{terms_of, in_pattern, choices, assignments, holds, leaf}
+use Rattle.query_eval_meaning.specs.Eval.{join}
 use Rattle.query_algebra_laws.specs.Choices.{Apart, total-choices}
 use Rattle.query_algebra_laws.specs.MappingLaws.{set-same, agree_below-set, merge-set, merge-left, merge-none, agreed, either-right, none-is}
 use Rattle.query_algebra_laws.specs.Assignments.{cond-and, total-assignments, Shaped, each-assignments, all-holds-same, terms-apart, occurring}

@@ -5,7 +5,7 @@ use Rattle.std.proofs.Math.Path.{fun_ext}
 use Rattle.std.proofs.lemmas.Bool.{eq-eqb, ne_eqb, and_parts, cases_Bool, cases_eq}
 use Rattle.rdf_meaning.specs.Terms.{RdfTerm}
 use Rattle.rdf_meaning.specs.TermLaws.{same_term-is}
-use Rattle.query_meaning.specs.Mapping.{Mapping, set, agree, agree_below, either, merge}
+use Rattle.query_eval_meaning.specs.Mapping.{Mapping, set, agree, agree_below, either, merge}
 
 -- the variable that is set, and the others
 pub set-same : (v : ℕ) (t : Option RdfTerm) (m : Mapping) → set v t m v ≡ t

@@ -11,11 +11,11 @@ use Rattle.rdf_meaning.specs.TermLaws.{same_term-is, same_term-self, same_term_e
 use Rattle.query_meaning.specs.declared.pattern.Slot.{Slot}
 use Rattle.query_meaning.specs.declared.pattern.Slot.TheVariants.{Var, Const}
 use Rattle.query_meaning.specs.declared.pattern.Pattern.{Pattern}
-use Rattle.query_meaning.specs.Mapping.{Mapping, nothing, set, width}
-use Rattle.query_meaning.specs.Leaf.{with_term, terms_of, is_variable, in_pattern, choices, assignments, is_term, slot_is, instance_is, holds, leaf, bind_slot, bound, matches}
-use Rattle.query_meaning.specs.Answer.{same_place}
-use Rattle.query_meaning.specs.Matches.{same_below}
-use Rattle.query_meaning.specs.Width.{pattern_in_width, slot_in_width}
+use Rattle.query_eval_meaning.specs.Mapping.{Mapping, nothing, set, width}
+use Rattle.query_eval_meaning.specs.Leaf.{with_term, terms_of, is_variable, in_pattern, choices, assignments, is_term, slot_is, instance_is, holds, leaf, bind_slot, bound, matches}
+use Rattle.query_eval_meaning.specs.Answer.{same_place}
+use Rattle.query_eval_meaning.specs.Matches.{same_below}
+use Rattle.query_eval_meaning.specs.Width.{pattern_in_width, slot_in_width}
 use Rattle.query_algebra_laws.specs.OrderedAnswer.{same_place-is, same_place-self}
 use Rattle.query_algebra_laws.specs.Choices.{Apart}
 use Rattle.query_algebra_laws.specs.MappingLaws.{set-same, set-other, none-is}

@@ -7,9 +7,9 @@ use Rattle.bags.specs.Bag.{total, SameBag}
 use Rattle.bags.specs.BagLaws.{total-each, total-zero, total-map, total-flat_map, total-filter}
 use Rattle.rdf_meaning.specs.Terms.{RdfTerm}
 use Rattle.rdf_meaning.specs.TermLaws.{same_term-is}
-use Rattle.query_meaning.specs.Mapping.{Mapping, width, agree, agree_below, compatible, either, merge}
-use Rattle.query_meaning.specs.Eval.{join, or_alone, left_join}
-use Rattle.query_meaning.specs.Matches.{IsCovered}
+use Rattle.query_eval_meaning.specs.Mapping.{Mapping, width, agree, agree_below, compatible, either, merge}
+use Rattle.query_eval_meaning.specs.Eval.{join, or_alone, left_join}
+use Rattle.query_eval_meaning.specs.Matches.{IsCovered}
 use Rattle.query_algebra_laws.specs.Joins.{total-or_alone, merge-assoc, total-joined}
 
 agree-joined : (x y b : Option RdfTerm) → (is_some x ≡ true → is_some b ≡ true → is_some y ≡ true) → agree x y ≡ true → agree (either x y) b ≡ agree y b

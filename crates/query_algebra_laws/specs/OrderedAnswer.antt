@@ -9,12 +9,12 @@ use Rattle.bags.specs.SortLaws.{sort-same}
 use Rattle.bags.specs.ItemsLaws.{items_total, items_ties}
 use Rattle.rdf_meaning.specs.Terms.{RdfTerm}
 use Rattle.rdf_meaning.specs.TermLaws.{same_term-is, same_term-self}
-use Rattle.rdf_meaning.specs.TermOrder.{place_order}
-use Rattle.rdf_meaning.specs.OrderLaws.{place_order_total, place_order_ties}
+use Rattle.rdf_value_meaning.specs.TermOrder.{place_order}
+use Rattle.rdf_value_meaning.specs.OrderLaws.{place_order_total, place_order_ties}
 use Rattle.query_meaning.specs.declared.modifiers.Key.{Key}
 use Rattle.query_meaning.specs.declared.modifiers.Modifiers.{Modifiers}
-use Rattle.query_meaning.specs.Mapping.{Mapping}
-use Rattle.query_meaning.specs.Answer.{Row, same_place, all_keys, row_of, row_order, past, sorted_rows, distinct_rows, up_to, ordered_answer}
+use Rattle.query_eval_meaning.specs.Mapping.{Mapping}
+use Rattle.query_eval_meaning.specs.Answer.{Row, same_place, all_keys, row_of, row_order, past, sorted_rows, distinct_rows, up_to, ordered_answer}
 
 pub same_place-is : (x y : Option RdfTerm) → same_place x y ≡ true → x ≡ y
 same_place-is (Some a) (Some b) e = ap (λ (t : RdfTerm). Some t) (same_term-is a b e)

@@ -7,10 +7,10 @@ use Rattle.std.specs.List.{list_any, filter, AllByRecursion}
 use Rattle.std.proofs.lemmas.List.Folds.{list_any-append}
 use Rattle.bags.specs.Bag.{total, SameBag}
 use Rattle.bags.specs.BagLaws.{total-same, total-each, total-plus, total-map, total-flat_map, total-filter, total-append, each-weaker}
-use Rattle.query_meaning.specs.Mapping.{Mapping, width}
-use Rattle.query_meaning.specs.Eval.{or_alone, found, left_join}
-use Rattle.query_meaning.specs.Variables.{IsNarrow}
-use Rattle.query_meaning.specs.Matches.{same_below, Match, matches_of, unmatched}
+use Rattle.query_eval_meaning.specs.Mapping.{Mapping, width}
+use Rattle.query_eval_meaning.specs.Eval.{or_alone, found, left_join}
+use Rattle.query_eval_meaning.specs.Variables.{IsNarrow}
+use Rattle.query_eval_meaning.specs.Matches.{same_below, Match, matches_of, unmatched}
 use Rattle.query_algebra_laws.specs.OneLeaf.{same_below-refl, same-at}
 use Rattle.query_algebra_laws.specs.Joins.{total-or_alone}
 

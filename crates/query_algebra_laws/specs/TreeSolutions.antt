@@ -8,15 +8,15 @@ use Rattle.bags.specs.BagLaws.{same-append, same-filter, each-append, each-map, 
 use Rattle.rdf_meaning.specs.Terms.{RdfTerm, RdfTriple, same_term}
 use Rattle.rdf_meaning.specs.TermLaws.{same_term-self}
 use Rattle.query_meaning.specs.declared.pattern.Pattern.{Pattern}
-use Rattle.query_meaning.specs.Mapping.{Mapping, set, width, compatible, either, merge}
-use Rattle.query_meaning.specs.Leaf.{terms_of, choices, assignments, holds, leaf}
-use Rattle.query_meaning.specs.Eval.{join, or_alone, found, left_join}
-use Rattle.query_meaning.specs.Variables.{Variables, Binds, IsOver, in_both, in_either}
+use Rattle.query_eval_meaning.specs.Mapping.{Mapping, set, width, compatible, either, merge}
+use Rattle.query_eval_meaning.specs.Leaf.{terms_of, choices, assignments, holds, leaf}
+use Rattle.query_eval_meaning.specs.Eval.{join, or_alone, found, left_join}
+use Rattle.query_eval_meaning.specs.Variables.{Variables, Binds, IsOver, in_both, in_either}
 use Rattle.query_meaning.specs.declared.tree.Tree.{Tree}
-use Rattle.query_meaning.specs.Eval.{eval, passes_over, holds_over, solutions}
-use Rattle.query_meaning.specs.EvalLaws.{eval-Leaf, eval-Join, eval-LeftJoin, eval-Union, eval-Filter}
-use Rattle.query_meaning.specs.Variables.{pattern_variables, variables_of, certain_of}
-use Rattle.query_meaning.specs.VariableLaws.{variables-Leaf, variables-Join, variables-LeftJoin, variables-Union, variables-Filter, certain-Leaf, certain-Join, certain-LeftJoin, certain-Union, certain-Filter}
+use Rattle.query_eval_meaning.specs.Eval.{eval, passes_over, holds_over, solutions}
+use Rattle.query_eval_meaning.specs.EvalLaws.{eval-Leaf, eval-Join, eval-LeftJoin, eval-Union, eval-Filter}
+use Rattle.query_eval_meaning.specs.Variables.{pattern_variables, variables_of, certain_of}
+use Rattle.query_eval_meaning.specs.VariableLaws.{variables-Leaf, variables-Join, variables-LeftJoin, variables-Union, variables-Filter, certain-Leaf, certain-Join, certain-LeftJoin, certain-Union, certain-Filter}
 use Rattle.query_algebra_laws.specs.MappingLaws.{none-is, merge-left, merge-none}
 use Rattle.query_algebra_laws.specs.Assignments.{Shaped, each-assignments}
 use Rattle.query_algebra_laws.specs.Joins.{same-join, same-left_join}

@@ -3,10 +3,10 @@
 ghost use Rattle.std.specs.Prelude.{Bool, true, List, ◌++◌, map};
 ghost use Rattle.std.specs.List.{filter, AllByRecursion};
 ghost use Rattle.bags.specs.Bag.{SameBag};
-ghost use Rattle.query_meaning.specs.Mapping.{Mapping};
-ghost use Rattle.query_meaning.specs.Eval.{join, left_join};
-ghost use Rattle.query_meaning.specs.Variables.{IsNarrow};
-ghost use Rattle.query_meaning.specs.Matches.{Match, matches_of, unmatched, IsCovered};
+ghost use Rattle.query_eval_meaning.specs.Mapping.{Mapping};
+ghost use Rattle.query_eval_meaning.specs.Eval.{join, left_join};
+ghost use Rattle.query_eval_meaning.specs.Variables.{IsNarrow};
+ghost use Rattle.query_eval_meaning.specs.Matches.{Match, matches_of, unmatched, IsCovered};
 
 /// A join depends on its sides as bags.
 // For each step of the compiler that joins the rows of two others.

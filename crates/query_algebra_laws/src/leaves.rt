@@ -5,10 +5,10 @@ ghost use Rattle.std.specs.List.{flat_map, IsDistinct};
 ghost use Rattle.bags.specs.Bag.{SameBag};
 ghost use Rattle.rdf_meaning.specs.Terms.{RdfTriple, same_triple};
 ghost use Rattle.query_meaning.specs.declared.pattern.Pattern.{Pattern};
-ghost use Rattle.query_meaning.specs.Mapping.{nothing};
-ghost use Rattle.query_meaning.specs.Leaf.{leaf, matches};
-ghost use Rattle.query_meaning.specs.Width.{pattern_in_width};
-ghost use Rattle.query_meaning.specs.Eval.{join};
+ghost use Rattle.query_eval_meaning.specs.Mapping.{nothing};
+ghost use Rattle.query_eval_meaning.specs.Leaf.{leaf, matches};
+ghost use Rattle.query_eval_meaning.specs.Width.{pattern_in_width};
+ghost use Rattle.query_eval_meaning.specs.Eval.{join};
 
 /// Over distinct triples the solutions of one pattern are what each triple binds.
 // For the first program, which looks at one triple after another, and for each arm of a star.

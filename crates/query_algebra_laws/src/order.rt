@@ -5,11 +5,11 @@ ghost use Rattle.std.specs.Cmp.{IsTotalOrder};
 ghost use Rattle.std.specs.declared.cmp.Ordering.TheVariants.{Equal};
 ghost use Rattle.bags.specs.Bag.{SameBag};
 ghost use Rattle.rdf_meaning.specs.Terms.{RdfTerm};
-ghost use Rattle.rdf_meaning.specs.TermOrder.{term_order, place_order};
+ghost use Rattle.rdf_value_meaning.specs.TermOrder.{term_order, place_order};
 ghost use Rattle.query_meaning.specs.declared.modifiers.Key.{Key};
 ghost use Rattle.query_meaning.specs.declared.modifiers.Modifiers.{Modifiers};
-ghost use Rattle.query_meaning.specs.Mapping.{Mapping};
-ghost use Rattle.query_meaning.specs.Answer.{Row, row_order, ordered_answer};
+ghost use Rattle.query_eval_meaning.specs.Mapping.{Mapping};
+ghost use Rattle.query_eval_meaning.specs.Answer.{Row, row_order, ordered_answer};
 
 /// Terms stand in a total order, and those that tie are equal.
 // For the sorts of answers and of tables.

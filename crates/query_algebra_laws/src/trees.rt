@@ -6,10 +6,10 @@ ghost use Rattle.bags.specs.Bag.{SameBag};
 ghost use Rattle.rdf_meaning.specs.Terms.{RdfTerm, RdfTriple};
 ghost use Rattle.query_meaning.specs.declared.pattern.Pattern.{Pattern};
 ghost use Rattle.query_meaning.specs.declared.tree.Tree.{Tree};
-ghost use Rattle.query_meaning.specs.Mapping.{Mapping};
-ghost use Rattle.query_meaning.specs.Leaf.{terms_of};
-ghost use Rattle.query_meaning.specs.Eval.{eval, solutions};
-ghost use Rattle.query_meaning.specs.Variables.{Variables, pattern_variables, variables_of, certain_of, Binds, IsOver};
+ghost use Rattle.query_eval_meaning.specs.Mapping.{Mapping};
+ghost use Rattle.query_eval_meaning.specs.Leaf.{terms_of};
+ghost use Rattle.query_eval_meaning.specs.Eval.{eval, solutions};
+ghost use Rattle.query_eval_meaning.specs.Variables.{Variables, pattern_variables, variables_of, certain_of, Binds, IsOver};
 
 /// A tree's solutions depend on those of its leaves as bags.
 // For plans, whose leaves hold stars in place of patterns.

@@ -4,8 +4,8 @@ use Rattle.bags.specs.Bag.{SameBag}
 use Rattle.rdf_meaning.specs.Terms.{RdfTerm, RdfTriple}
 use Rattle.query_meaning.specs.declared.modifiers.Modifiers.{Modifiers}
 use Rattle.query_meaning.specs.declared.query.Query.{Query}
-use Rattle.query_meaning.specs.Answer.{Row, distinct_rows, up_to, sorted_rows, ordered_answer}
-use Rattle.query_meaning.specs.Eval.{solutions, answer_of}
+use Rattle.query_eval_meaning.specs.Answer.{Row, distinct_rows, up_to, sorted_rows, ordered_answer}
+use Rattle.query_eval_meaning.specs.Eval.{solutions, answer_of}
 use Rattle.query_algebra_laws.specs.OrderedAnswer.{order-same}
 use Rattle.query_plain_answers.specs.Places.{place_at}
 

@@ -14,8 +14,8 @@ use Rattle.bags.specs.SortLaws.{map-sort}
 use Rattle.bags.specs.StableLaws.{sort-stable}
 use Rattle.rdf_meaning.specs.Terms.{RdfTerm}
 use Rattle.query_meaning.specs.declared.modifiers.Key.{Key}
-use Rattle.query_meaning.specs.Mapping.{Mapping}
-use Rattle.query_meaning.specs.Answer.{Row, all_keys, row_of, row_order, past, sorted_rows}
+use Rattle.query_eval_meaning.specs.Mapping.{Mapping}
+use Rattle.query_eval_meaning.specs.Answer.{Row, all_keys, row_of, row_order, past, sorted_rows}
 use Rattle.query_algebra_laws.specs.OrderedAnswer.{row_order_total}
 use Rattle.query_plain_answers.specs.Places.{place_at}
 use Rattle.query_answer_steps.specs.Shown.{key_order, shown_row}

@@ -9,7 +9,7 @@ use Rattle.std.proofs.Common.{ap, ap₂, subst}
 use Rattle.bags.specs.Sort.{same_items}
 use Rattle.rdf_meaning.specs.Terms.{RdfTerm, same_term}
 use Rattle.rdf_meaning.specs.TermLaws.{same_term-Decides, same_term-self, decided_equiv}
-use Rattle.query_meaning.specs.Answer.{Row, same_place}
+use Rattle.query_eval_meaning.specs.Answer.{Row, same_place}
 
 abbrev pub same_row : Row → Row → Bool
 same_row = same_items same_place

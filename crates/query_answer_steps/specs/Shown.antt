@@ -3,7 +3,7 @@ use Rattle.std.specs.Prelude.{ℕ, List, Option, map}
 use Rattle.std.specs.declared.cmp.Ordering.{Ordering}
 use Rattle.rdf_meaning.specs.Terms.{RdfTerm}
 use Rattle.query_meaning.specs.declared.modifiers.Key.{Key}
-use Rattle.query_meaning.specs.Answer.{row_of, row_order}
+use Rattle.query_eval_meaning.specs.Answer.{row_of, row_order}
 use Rattle.query_plain_answers.specs.Places.{place_at}
 
 -- by the keys, the first that differs

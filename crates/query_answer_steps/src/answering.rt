@@ -3,8 +3,8 @@
 ghost use Rattle.std.specs.Prelude.{◌≡◌, IfOk, map, drop};
 ghost use Rattle.std.specs.List.{IsDistinct};
 ghost use Rattle.rdf_meaning.specs.Terms.{same_triple};
-ghost use Rattle.query_meaning.specs.Answer.{up_to, distinct_rows, ordered_answer};
-ghost use Rattle.query_meaning.specs.Eval.{answer_of};
+ghost use Rattle.query_eval_meaning.specs.Answer.{up_to, distinct_rows, ordered_answer};
+ghost use Rattle.query_eval_meaning.specs.Eval.{answer_of};
 ghost use Rattle.query_plain_answers.specs.Places.{place_at};
 
 use crate::first_rows::first_rows;

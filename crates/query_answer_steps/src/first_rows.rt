@@ -18,7 +18,7 @@ struct FirstRows {
 
 impl Model for FirstRows {
     ghost use Rattle.std.specs.Prelude.{List};
-    ghost use Rattle.query_meaning.specs.Answer.{Row};
+    ghost use Rattle.query_eval_meaning.specs.Answer.{Row};
 
     ghost Value = { List Row };
 

@@ -2,7 +2,7 @@
 
 ghost use Rattle.std.specs.Prelude.{◌≡◌, IfOk, OnOk, map};
 ghost use Rattle.bags.specs.Sort.{sort, turned};
-ghost use Rattle.query_meaning.specs.Answer.{all_keys, sorted_rows};
+ghost use Rattle.query_eval_meaning.specs.Answer.{all_keys, sorted_rows};
 ghost use Rattle.query_plain_answers.specs.Places.{place_at};
 ghost use Rattle.query_answer_steps.specs.Shown.{key_order, shown_row};
 

@@ -10,9 +10,9 @@ use Rattle.rdf_meaning.specs.TermLaws.{same_triple-is, same_triple-self}
 use Rattle.query_meaning.specs.declared.pattern.Pattern.{Pattern}
 use Rattle.query_meaning.specs.declared.query.Query.{Query}
 use Rattle.query_meaning.specs.declared.tree.Tree.{Tree}
-use Rattle.query_meaning.specs.Mapping.{Mapping, set, width}
-use Rattle.query_meaning.specs.Leaf.{in_pattern, choices, assignments, instance_is, holds, terms_of, leaf}
-use Rattle.query_meaning.specs.Eval.{solutions, answer_of}
+use Rattle.query_eval_meaning.specs.Mapping.{Mapping, set, width}
+use Rattle.query_eval_meaning.specs.Leaf.{in_pattern, choices, assignments, instance_is, holds, terms_of, leaf}
+use Rattle.query_eval_meaning.specs.Eval.{solutions, answer_of}
 use Rattle.query_algebra_laws.specs.OrderedAnswer.{order-same}
 use Rattle.query_algebra_laws.specs.TreeSolutions.{eval-same}
 use Rattle.query_data_laws.specs.SameTriples.{HasSameTriples}

@@ -7,7 +7,7 @@ use Rattle.bags.specs.Bag.{total, SameBag}
 use Rattle.bags.specs.BagLaws.{total-same, total-each, total-none, total-swap}
 use Rattle.rdf_meaning.specs.Terms.{RdfTerm, RdfTriple, same_term, same_triple}
 use Rattle.rdf_meaning.specs.TermLaws.{same_term-is, same_term_equiv, same_triple-is, same_triple-self}
-use Rattle.query_meaning.specs.Leaf.{with_term, terms_of}
+use Rattle.query_eval_meaning.specs.Leaf.{with_term, terms_of}
 use Rattle.query_algebra_laws.specs.Choices.{Apart}
 use Rattle.query_algebra_laws.specs.Assignments.{terms-apart}
 use Rattle.query_algebra_laws.specs.TreeSolutions.{members}

@@ -6,7 +6,7 @@ ghost use Rattle.rdf_meaning.specs.Terms.{RdfTriple};
 ghost use Rattle.query_meaning.specs.declared.pattern.Pattern.{Pattern};
 ghost use Rattle.query_meaning.specs.declared.query.Query.{Query};
 ghost use Rattle.query_meaning.specs.declared.tree.Tree.{Tree};
-ghost use Rattle.query_meaning.specs.Eval.{solutions, answer_of};
+ghost use Rattle.query_eval_meaning.specs.Eval.{solutions, answer_of};
 ghost use Rattle.query_data_laws.specs.SameTriples.{HasSameTriples};
 
 /// Lists with the same triples have the same solutions.

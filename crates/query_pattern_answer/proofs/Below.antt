@@ -1,11 +1,11 @@
 -- Variables below 64 have places.
 use Rattle.std.proofs.Common.{◌≡◌, ◌<◌, ℕ, true}
 use Rattle.std.proofs.lemmas.Bool.{lt-ltb}
-use Rattle.query_meaning.specs.Mapping as mappings
-use Rattle.query_meaning.specs.Mapping.{width}
+use Rattle.query_eval_meaning.specs.Mapping as mappings
+use Rattle.query_eval_meaning.specs.Mapping.{width}
 use Rattle.query_meaning.specs.declared.pattern.Slot.{Slot}
 use Rattle.query_meaning.specs.declared.pattern.Slot.TheVariants.{Var}
-use Rattle.query_meaning.specs.Width.{slot_in_width}
+use Rattle.query_eval_meaning.specs.Width.{slot_in_width}
 
 below_width : (v : ℕ) → v < 64 → v < width
 unfolding mappings.width

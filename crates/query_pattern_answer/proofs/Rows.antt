@@ -13,20 +13,20 @@ use Rattle.std.proofs.lemmas.Fn.{always_returns_same}
 use Rattle.std.proofs.lemmas.List.Sorted.{ranks_by}
 use Rattle.bags.specs.StableLaws.{sort-stable}
 use Rattle.bags.specs.ItemsLaws.{items_total}
-use Rattle.rdf_meaning.specs.OrderLaws.{place_order_total}
+use Rattle.rdf_value_meaning.specs.OrderLaws.{place_order_total}
 use Rattle.bags.specs.Sort.{sort, turned}
 use Rattle.bags.specs.SortLaws.{map-sort}
 use Rattle.rdf_meaning.specs.Terms.{RdfTriple}
-use Rattle.rdf_meaning.specs.TermOrder.{place_order}
-use Rattle.line_meaning.specs.declared.change.Change.{Change}
-use Rattle.query_meaning.specs.AnswerText.{answer_text}
-use Rattle.line_meaning.specs.Present.{present}
+use Rattle.rdf_value_meaning.specs.TermOrder.{place_order}
+use Rattle.line_change_meaning.specs.declared.change.Change.{Change}
+use Rattle.query_eval_meaning.specs.AnswerText.{answer_text}
+use Rattle.line_change_meaning.specs.Present.{present}
 use Rattle.query_meaning.specs.declared.modifiers.Key.{Key}
 use Rattle.query_meaning.specs.declared.pattern.Pattern.{Pattern}
-use Rattle.query_meaning.specs.Mapping.{Mapping}
-use Rattle.query_meaning.specs.Width.{pattern_in_width}
-use Rattle.query_meaning.specs.Leaf.{leaf, matches, bound}
-use Rattle.query_meaning.specs.Answer.{Row, row_of, row_order, past, all_keys, ordered_answer}
+use Rattle.query_eval_meaning.specs.Mapping.{Mapping}
+use Rattle.query_eval_meaning.specs.Width.{pattern_in_width}
+use Rattle.query_eval_meaning.specs.Leaf.{leaf, matches, bound}
+use Rattle.query_eval_meaning.specs.Answer.{Row, row_of, row_order, past, all_keys, ordered_answer}
 use Rattle.query_algebra_laws.specs.OrderedAnswer.{order-same}
 use Rattle.query_algebra_laws.specs.OneLeaf.{leaf_one}
 use Rattle.query_pattern_answer.specs.Rows.{is_match, row_at, plain_order, sorted_matches, showing, pattern_text, plain_answer_text}

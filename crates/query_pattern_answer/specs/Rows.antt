@@ -4,11 +4,11 @@ use Rattle.std.specs.declared.cmp.Ordering.{Ordering}
 use Rattle.std.specs.Ordering.{on}
 use Rattle.bags.specs.Sort.{sort, by_items}
 use Rattle.rdf_meaning.specs.Terms.{RdfTriple}
-use Rattle.rdf_meaning.specs.TermOrder.{place_order}
+use Rattle.rdf_value_meaning.specs.TermOrder.{place_order}
 use Rattle.query_meaning.specs.declared.pattern.Pattern.{Pattern}
-use Rattle.query_meaning.specs.Leaf.{bound, instance_is, leaf}
-use Rattle.query_meaning.specs.Answer.{Row, ordered_answer}
-use Rattle.query_meaning.specs.AnswerText.{answer_text}
+use Rattle.query_eval_meaning.specs.Leaf.{bound, instance_is, leaf}
+use Rattle.query_eval_meaning.specs.Answer.{Row, ordered_answer}
+use Rattle.query_eval_meaning.specs.AnswerText.{answer_text}
 use Rattle.query_meaning.specs.declared.modifiers.Modifiers.{Modifiers}
 
 -- the triple is an instance of the pattern

@@ -1,6 +1,6 @@
 //! Triples whose terms are lent.
 
-use rdf_terms::Term;
+use rdf_meaning::Term;
 use std::marker::Model;
 
 /// A triple whose terms are lent by whoever holds them; contracts see the triple.

@@ -2,12 +2,13 @@
 
 ghost use Rattle.std.specs.Prelude.{◌≡◌, ◌<◌, length, slice_get, Some, IfOk, filter, option_copied};
 ghost use Rattle.std.specs.Ordering.{on};
-ghost use Rattle.query_meaning.specs.Leaf.{bound, slot_is, is_variable};
+ghost use Rattle.query_eval_meaning.specs.Leaf.{bound, slot_is, is_variable};
 ghost use Rattle.query_pattern_answer.specs.Rows.{is_match, row_at, plain_order, sorted_matches};
 
 use crate::lent::LentTriple;
 use query_meaning::{Pattern, Slot, VarId};
-use rdf_terms::{Term, order_places};
+use rdf_meaning::Term;
+use rdf_terms::order_places;
 use rdf_triples::PlainTriples;
 use std::alloc::{AllocError, Global};
 use std::cmp::Ordering;

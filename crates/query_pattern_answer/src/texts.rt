@@ -1,18 +1,19 @@
 //! The text of an answer.
 
 ghost use Rattle.std.specs.Prelude.{◌≡◌, ◌++◌, ◌∷◌, List, OnOk, IfOk, map};
-ghost use Rattle.query_meaning.specs.Leaf.{bound};
-ghost use Rattle.query_meaning.specs.AnswerText.{tabbed, row_text, header_text, answer_text, place_text};
+ghost use Rattle.query_eval_meaning.specs.Leaf.{bound};
+ghost use Rattle.query_eval_meaning.specs.AnswerText.{tabbed, row_text, header_text, answer_text, place_text};
 ghost use Rattle.bags.specs.Bag.{SameBag};
-ghost use Rattle.line_meaning.specs.declared.change.Change.{Change};
-ghost use Rattle.line_meaning.specs.Present.{present};
+ghost use Rattle.line_change_meaning.specs.declared.change.Change.{Change};
+ghost use Rattle.line_change_meaning.specs.Present.{present};
 ghost use Rattle.query_pattern_answer.specs.Rows.{row_at, name_of, names_at, pattern_text, plain_answer_text};
 
 use crate::lent::LentTriple;
 use crate::solutions::{bound, sorted_matches};
 use crate::widths::has_places;
 use query_meaning::{Pattern, VarId};
-use rdf_terms::{Text, write_term};
+use rdf_meaning::Text;
+use rdf_spelling::write_term;
 use rdf_triples::PlainTriples;
 use std::alloc::{AllocError, Global};
 

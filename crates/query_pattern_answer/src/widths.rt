@@ -1,7 +1,7 @@
 //! The places of a pattern's variables.
 
 ghost use Rattle.std.specs.Prelude.{◌≡◌, true};
-ghost use Rattle.query_meaning.specs.Width.{slot_in_width, pattern_in_width};
+ghost use Rattle.query_eval_meaning.specs.Width.{slot_in_width, pattern_in_width};
 
 use query_meaning::{Pattern, Slot};
 

@@ -4,11 +4,11 @@ use Rattle.std.proofs.Math.Path.{fun_ext}
 use Rattle.std.proofs.lemmas.List.{get_or_push, get_or_append_left, get_or_past, get_or-set_same, get_or-set_other}
 use Rattle.std.proofs.lemmas.Bool.{cases_lt, cases_Bool, eqb-true, eqb-false, lt-ltb}
 use Rattle.rdf_meaning.specs.Terms.{RdfTerm}
-use Rattle.query_meaning.specs.Mapping.{Mapping, width, agree_below, compatible}
-use Rattle.query_meaning.specs.Mapping as mappings
+use Rattle.query_eval_meaning.specs.Mapping.{Mapping, width, agree_below, compatible}
+use Rattle.query_eval_meaning.specs.Mapping as mappings
 use Rattle.query_meaning.specs.declared.pattern.Slot.{Slot}
 use Rattle.query_meaning.specs.declared.pattern.Slot.TheVariants.{Var}
-use Rattle.query_meaning.specs.Width.{slot_in_width}
+use Rattle.query_eval_meaning.specs.Width.{slot_in_width}
 use Rattle.query_plain_answers.specs.Places.{place_at}
 
 -- there are n places, and they are the mapping's

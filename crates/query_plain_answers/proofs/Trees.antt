@@ -9,11 +9,11 @@ use Rattle.query_meaning.specs.declared.expression.TruthExpr.{TruthExpr}
 use Rattle.query_meaning.specs.declared.pattern.Pattern.{Pattern}
 use Rattle.query_meaning.specs.declared.tree.Tree.{Tree}
 use Rattle.query_meaning.specs.declared.tree.Tree.TheVariants as trees
-use Rattle.query_meaning.specs.Mapping.{Mapping, nothing}
-use Rattle.query_meaning.specs.Leaf.{leaf, matches}
-use Rattle.query_meaning.specs.Width.{pattern_in_width}
-use Rattle.query_meaning.specs.Eval.{join, left_join, passes_over, holds_over, solutions}
-use Rattle.query_meaning.specs.EvalLaws.{eval-Join, eval-LeftJoin, eval-Union, eval-Filter}
+use Rattle.query_eval_meaning.specs.Mapping.{Mapping, nothing}
+use Rattle.query_eval_meaning.specs.Leaf.{leaf, matches}
+use Rattle.query_eval_meaning.specs.Width.{pattern_in_width}
+use Rattle.query_eval_meaning.specs.Eval.{join, left_join, passes_over, holds_over, solutions}
+use Rattle.query_eval_meaning.specs.EvalLaws.{eval-Join, eval-LeftJoin, eval-Union, eval-Filter}
 use Rattle.query_algebra_laws.specs.Joins.{same-join, same-left_join}
 use Rattle.query_algebra_laws.specs.LeavesJoin.{leaf_append, leaf_nothing}
 use Rattle.query_algebra_laws.specs.OneLeaf.{leaf_one}

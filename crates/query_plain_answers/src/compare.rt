@@ -1,7 +1,7 @@
 //! Terms compared as expressions compare them.
 
 ghost use Rattle.std.specs.Prelude.{◌≡◌};
-ghost use Rattle.query_meaning.specs.Expressions.{effective, equal_terms, less_terms, value_cmp, compared_by_value, is_literal, kind_passes};
+ghost use Rattle.query_eval_meaning.specs.Expressions.{effective, equal_terms, less_terms, value_cmp, compared_by_value, is_literal, kind_passes};
 
 use query_meaning::TermTest;
 use rdf_meaning::{Term, TermKind};

@@ -2,8 +2,8 @@
 
 ghost use Rattle.std.specs.Prelude.{◌≡◌, ◌++◌, IfOk, OnOk, map};
 ghost use Rattle.std.specs.List.{filter};
-ghost use Rattle.query_meaning.specs.Mapping.{merge, compatible};
-ghost use Rattle.query_meaning.specs.Eval.{join, found, left_join, passes_over, holds_over};
+ghost use Rattle.query_eval_meaning.specs.Mapping.{merge, compatible};
+ghost use Rattle.query_eval_meaning.specs.Eval.{join, found, left_join, passes_over, holds_over};
 ghost use Rattle.query_plain_answers.specs.Places.{place_at};
 
 use crate::solution::Solution;

@@ -4,8 +4,8 @@ ghost use Rattle.std.specs.Prelude.{◌≡◌, ◌++◌, IfOk, OnOk, map, true};
 ghost use Rattle.std.specs.List.{flat_map, IsDistinct};
 ghost use Rattle.bags.specs.Bag.{SameBag};
 ghost use Rattle.rdf_meaning.specs.Terms.{same_triple};
-ghost use Rattle.query_meaning.specs.Leaf.{slot_is, instance_is, bind_slot, bound, matches, leaf};
-ghost use Rattle.query_meaning.specs.Width.{slot_in_width, pattern_in_width};
+ghost use Rattle.query_eval_meaning.specs.Leaf.{slot_is, instance_is, bind_slot, bound, matches, leaf};
+ghost use Rattle.query_eval_meaning.specs.Width.{slot_in_width, pattern_in_width};
 ghost use Rattle.query_plain_answers.specs.Places.{place_at};
 
 use crate::joins::join;

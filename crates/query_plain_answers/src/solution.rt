@@ -1,7 +1,7 @@
 //! Solutions: a place for each variable that there may be.
 
 ghost use Rattle.std.specs.Prelude.{◌≡◌, IfOk, OnOk, option_copied, Some};
-ghost use Rattle.query_meaning.specs.Mapping.{nothing, set, compatible, merge, agree, either};
+ghost use Rattle.query_eval_meaning.specs.Mapping.{nothing, set, compatible, merge, agree, either};
 ghost use Rattle.query_plain_answers.specs.Places.{place_at};
 
 use query_meaning::VarId;

@@ -4,7 +4,7 @@ ghost use Rattle.std.specs.Prelude.{IfOk, map};
 ghost use Rattle.std.specs.List.{IsDistinct};
 ghost use Rattle.bags.specs.Bag.{SameBag};
 ghost use Rattle.rdf_meaning.specs.Terms.{same_triple};
-ghost use Rattle.query_meaning.specs.Eval.{solutions};
+ghost use Rattle.query_eval_meaning.specs.Eval.{solutions};
 ghost use Rattle.query_plain_answers.specs.Places.{place_at};
 
 use crate::joins::{filtered, join, left_join};

@@ -2,7 +2,7 @@
 
 ghost use Rattle.std.specs.Prelude.{◌≡◌, IfOk, Some, map};
 ghost use Rattle.rdf_meaning.specs.Terms.{iri, same_term};
-ghost use Rattle.query_meaning.specs.Expressions.{value_over, truth_over, string_of, str_of, lang_of, datatype_of, compare, on_values, equal_terms, less_terms, not3, and3, or3, all3, any3};
+ghost use Rattle.query_eval_meaning.specs.Expressions.{value_over, truth_over, string_of, str_of, lang_of, datatype_of, compare, on_values, equal_terms, less_terms, not3, and3, or3, all3, any3};
 ghost use Rattle.query_plain_answers.specs.Places.{place_at};
 
 use crate::compare::{effective, equal_terms, kind_passes, less_terms};

@@ -2,7 +2,7 @@
 use Rattle.std.specs.Prelude.{ℕ, Bool, false, not, ◌&&◌, List, [], map}
 use Rattle.std.specs.List.{flat_map}
 use Rattle.rdf_meaning.specs.Terms.{RdfTerm, is_empty}
-use Rattle.rdf_terms.specs.declared.side.SideName.{SideName}
+use Rattle.rdf_meaning.specs.declared.side.SideName.{SideName}
 use Rattle.query_meaning.specs.declared.pattern.Slot.{Slot}
 use Rattle.query_meaning.specs.declared.pattern.Slot.TheVariants.{Var, Const}
 use Rattle.query_meaning.specs.declared.pattern.Pattern.{Pattern}

@@ -9,8 +9,8 @@ use Rattle.query_meaning.specs.declared.pattern.Slot.TheVariants.{Var, Const}
 use Rattle.query_meaning.specs.declared.query.Query.{Query}
 use Rattle.query_meaning.specs.declared.tree.Tree.{Tree, fold-Tree}
 use Rattle.query_meaning.specs.declared.tree.Tree.TheOpen.{Tree-F, Leaf, Join, LeftJoin, Union, Filter}
-use Rattle.query_meaning.specs.Leaf.{is_variable}
-use Rattle.query_meaning.specs.Eval.{solutions}
+use Rattle.query_eval_meaning.specs.Leaf.{is_variable}
+use Rattle.query_eval_meaning.specs.Eval.{solutions}
 use Rattle.query_plan_meaning.specs.declared.star.Arm.{Arm}
 use Rattle.query_plan_meaning.specs.declared.star.Star.{Star}
 use Rattle.query_plan_meaning.specs.declared.star.StarBody.{StarBody}

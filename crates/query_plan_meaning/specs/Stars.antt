@@ -2,16 +2,16 @@
 use Rattle.std.specs.Prelude.{Bool, true, if◌then◌else◌, ◌&&◌, ◌||◌, List, [], ◌∷◌, ◌++◌}
 use Rattle.std.specs.List.{flat_map, filter, list_any, list_all}
 use Rattle.rdf_meaning.specs.Terms.{RdfTerm, RdfTriple, same_term}
-use Rattle.rdf_terms.specs.declared.side.SideName.{SideName}
-use Rattle.rdf_terms.specs.declared.side.SideName.TheVariants.{Direct, Reverse}
+use Rattle.rdf_meaning.specs.declared.side.SideName.{SideName}
+use Rattle.rdf_meaning.specs.declared.side.SideName.TheVariants.{Direct, Reverse}
 use Rattle.query_meaning.specs.declared.pattern.Slot.{Slot}
 use Rattle.query_meaning.specs.declared.pattern.Pattern.{Pattern}
 use Rattle.query_meaning.specs.declared.tree.Tree.{Tree}
-use Rattle.query_meaning.specs.Mapping.{Mapping, nothing}
-use Rattle.query_meaning.specs.Leaf.{is_variable, slot_is, bind_slot, leaf, matches, terms_of}
-use Rattle.query_meaning.specs.Width.{slot_in_width}
-use Rattle.query_meaning.specs.Eval.{join, left_join, eval}
-use Rattle.query_meaning.specs.Variables.{Variables, in_both, in_either}
+use Rattle.query_eval_meaning.specs.Mapping.{Mapping, nothing}
+use Rattle.query_eval_meaning.specs.Leaf.{is_variable, slot_is, bind_slot, leaf, matches, terms_of}
+use Rattle.query_eval_meaning.specs.Width.{slot_in_width}
+use Rattle.query_eval_meaning.specs.Eval.{join, left_join, eval}
+use Rattle.query_eval_meaning.specs.Variables.{Variables, in_both, in_either}
 use Rattle.query_plan_meaning.specs.declared.star.Arm.{Arm}
 use Rattle.query_plan_meaning.specs.declared.star.Star.{Star}
 use Rattle.query_plan_meaning.specs.declared.star.StarBody.{StarBody}

@@ -1,5 +1,5 @@
 use query_meaning::Slot;
-use rdf_terms::SideName;
+use rdf_meaning::SideName;
 use sqlite_items::Items;
 
 /// A pattern of a star, without the place that is the star's entity; its number is the pattern's.

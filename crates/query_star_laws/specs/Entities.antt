@@ -10,12 +10,12 @@ use Rattle.rdf_meaning.specs.TermLaws.{same_term-is, same_term_equiv}
 use Rattle.query_meaning.specs.declared.pattern.Slot.{Slot}
 use Rattle.query_meaning.specs.declared.pattern.Slot.TheVariants.{Var, Const}
 use Rattle.query_meaning.specs.declared.pattern.Pattern.{Pattern}
-use Rattle.query_meaning.specs.Mapping.{Mapping, width, agree, compatible, merge}
-use Rattle.query_meaning.specs.Leaf.{terms_of, is_variable, in_pattern, is_term, slot_is, instance_is, leaf, bound, matches}
-use Rattle.query_meaning.specs.Eval.{join, or_alone, found, left_join}
-use Rattle.rdf_terms.specs.declared.side.SideName.{SideName}
-use Rattle.rdf_terms.specs.declared.side.SideName.TheVariants.{Direct, Reverse}
-use Rattle.query_meaning.specs.Width.{pattern_in_width}
+use Rattle.query_eval_meaning.specs.Mapping.{Mapping, width, agree, compatible, merge}
+use Rattle.query_eval_meaning.specs.Leaf.{terms_of, is_variable, in_pattern, is_term, slot_is, instance_is, leaf, bound, matches}
+use Rattle.query_eval_meaning.specs.Eval.{join, or_alone, found, left_join}
+use Rattle.rdf_meaning.specs.declared.side.SideName.{SideName}
+use Rattle.rdf_meaning.specs.declared.side.SideName.TheVariants.{Direct, Reverse}
+use Rattle.query_eval_meaning.specs.Width.{pattern_in_width}
 use Rattle.query_plan_meaning.specs.Stars.{entity_of}
 use Rattle.query_algebra_laws.specs.MappingLaws.{agreed}
 use Rattle.query_algebra_laws.specs.Assignments.{terms-apart}

@@ -8,13 +8,13 @@ use Rattle.bags.specs.BagLaws.{same-refl, same-sym, same-trans, same-append, eac
 use Rattle.rdf_meaning.specs.Terms.{RdfTerm, RdfTriple, same_triple}
 use Rattle.query_meaning.specs.declared.pattern.Slot.{Slot}
 use Rattle.query_meaning.specs.declared.pattern.Pattern.{Pattern}
-use Rattle.query_meaning.specs.Mapping.{Mapping, nothing, width}
-use Rattle.query_meaning.specs.Leaf.{terms_of, is_variable, leaf}
-use Rattle.query_meaning.specs.Eval.{join, left_join}
-use Rattle.query_meaning.specs.Variables.{Variables, IsNarrow, Binds, IsOver}
-use Rattle.query_meaning.specs.Matches.{IsCovered}
-use Rattle.rdf_terms.specs.declared.side.SideName.{SideName}
-use Rattle.query_meaning.specs.Width.{slot_in_width}
+use Rattle.query_eval_meaning.specs.Mapping.{Mapping, nothing, width}
+use Rattle.query_eval_meaning.specs.Leaf.{terms_of, is_variable, leaf}
+use Rattle.query_eval_meaning.specs.Eval.{join, left_join}
+use Rattle.query_eval_meaning.specs.Variables.{Variables, IsNarrow, Binds, IsOver}
+use Rattle.query_eval_meaning.specs.Matches.{IsCovered}
+use Rattle.rdf_meaning.specs.declared.side.SideName.{SideName}
+use Rattle.query_eval_meaning.specs.Width.{slot_in_width}
 use Rattle.query_plan_meaning.specs.declared.star.Arm.{Arm}
 use Rattle.query_plan_meaning.specs.declared.star.Star.{Star}
 use Rattle.query_plan_meaning.specs.declared.star.StarBody.{StarBody}

@@ -5,11 +5,11 @@ use Rattle.std.proofs.lemmas.Bool.{and_parts, cases_Bool}
 use Rattle.std.specs.List.{list_all, filter, AllByRecursion}
 use Rattle.rdf_meaning.specs.Terms.{RdfTriple}
 use Rattle.query_meaning.specs.declared.tree.Tree.{Tree}
-use Rattle.query_meaning.specs.Mapping.{Mapping}
-use Rattle.query_meaning.specs.Leaf.{terms_of}
-use Rattle.query_meaning.specs.Eval.{join, left_join, passes_over, holds_over, eval}
-use Rattle.query_meaning.specs.EvalLaws.{eval-Leaf, eval-Join, eval-LeftJoin, eval-Union, eval-Filter}
-use Rattle.query_meaning.specs.Variables.{Binds, IsOver, variables_of, certain_of}
+use Rattle.query_eval_meaning.specs.Mapping.{Mapping}
+use Rattle.query_eval_meaning.specs.Leaf.{terms_of}
+use Rattle.query_eval_meaning.specs.Eval.{join, left_join, passes_over, holds_over, eval}
+use Rattle.query_eval_meaning.specs.EvalLaws.{eval-Leaf, eval-Join, eval-LeftJoin, eval-Union, eval-Filter}
+use Rattle.query_eval_meaning.specs.Variables.{Binds, IsOver, variables_of, certain_of}
 use Rattle.query_plan_meaning.specs.declared.star.Star.{Star}
 use Rattle.query_plan_meaning.specs.Stars.{stars_leaf, star_in_width, stars_variables, stars_certain, plan_solutions}
 use Rattle.query_plan_meaning.specs.Plans.{every_leaf}

@@ -11,12 +11,12 @@ use Rattle.rdf_meaning.specs.TermLaws.{same_term-self}
 use Rattle.query_meaning.specs.declared.pattern.Slot.{Slot}
 use Rattle.query_meaning.specs.declared.pattern.Slot.TheVariants.{Var, Const}
 use Rattle.query_meaning.specs.declared.pattern.Pattern.{Pattern}
-use Rattle.query_meaning.specs.Mapping.{Mapping, nothing, set, width, agree, agree_below, compatible, either, merge}
-use Rattle.query_meaning.specs.Leaf.{terms_of, leaf}
-use Rattle.query_meaning.specs.Eval.{join, left_join}
-use Rattle.rdf_terms.specs.declared.side.SideName.{SideName}
-use Rattle.rdf_terms.specs.declared.side.SideName.TheVariants.{Direct, Reverse}
-use Rattle.query_meaning.specs.Width.{pattern_in_width, slot_in_width}
+use Rattle.query_eval_meaning.specs.Mapping.{Mapping, nothing, set, width, agree, agree_below, compatible, either, merge}
+use Rattle.query_eval_meaning.specs.Leaf.{terms_of, leaf}
+use Rattle.query_eval_meaning.specs.Eval.{join, left_join}
+use Rattle.rdf_meaning.specs.declared.side.SideName.{SideName}
+use Rattle.rdf_meaning.specs.declared.side.SideName.TheVariants.{Direct, Reverse}
+use Rattle.query_eval_meaning.specs.Width.{pattern_in_width, slot_in_width}
 use Rattle.query_plan_meaning.specs.declared.star.Arm.{Arm}
 use Rattle.query_plan_meaning.specs.Stars.{arm_pattern, arm_sols, entity_sols, with_required, with_optional, both_sols, left_joins, arm_in_width}
 use Rattle.query_algebra_laws.specs.MappingLaws.{set-same}

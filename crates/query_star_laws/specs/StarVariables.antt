@@ -8,13 +8,13 @@ use Rattle.rdf_meaning.specs.Terms.{RdfTerm, RdfTriple, same_term}
 use Rattle.query_meaning.specs.declared.pattern.Slot.{Slot}
 use Rattle.query_meaning.specs.declared.pattern.Slot.TheVariants.{Var, Const}
 use Rattle.query_meaning.specs.declared.pattern.Pattern.{Pattern}
-use Rattle.query_meaning.specs.Mapping.{Mapping, nothing, set, width, merge}
-use Rattle.query_meaning.specs.Leaf.{terms_of, is_variable, in_pattern, instance_is, bound, matches}
-use Rattle.query_meaning.specs.Eval.{join, left_join}
-use Rattle.query_meaning.specs.Variables.{Variables, Binds, IsOver, in_either}
-use Rattle.rdf_terms.specs.declared.side.SideName.{SideName}
-use Rattle.rdf_terms.specs.declared.side.SideName.TheVariants.{Direct, Reverse}
-use Rattle.query_meaning.specs.Width.{pattern_in_width, slot_in_width}
+use Rattle.query_eval_meaning.specs.Mapping.{Mapping, nothing, set, width, merge}
+use Rattle.query_eval_meaning.specs.Leaf.{terms_of, is_variable, in_pattern, instance_is, bound, matches}
+use Rattle.query_eval_meaning.specs.Eval.{join, left_join}
+use Rattle.query_eval_meaning.specs.Variables.{Variables, Binds, IsOver, in_either}
+use Rattle.rdf_meaning.specs.declared.side.SideName.{SideName}
+use Rattle.rdf_meaning.specs.declared.side.SideName.TheVariants.{Direct, Reverse}
+use Rattle.query_eval_meaning.specs.Width.{pattern_in_width, slot_in_width}
 use Rattle.query_plan_meaning.specs.declared.star.Arm.{Arm}
 use Rattle.query_plan_meaning.specs.declared.star.Star.{Star}
 use Rattle.query_plan_meaning.specs.declared.star.StarBody.{StarBody}

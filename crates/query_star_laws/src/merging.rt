@@ -4,10 +4,10 @@ ghost use Rattle.std.specs.Prelude.{◌≡◌, ◌<◌, ℕ, List, [], ◌∷◌
 ghost use Rattle.std.specs.List.{list_all, IsDistinct};
 ghost use Rattle.bags.specs.Bag.{SameBag};
 ghost use Rattle.rdf_meaning.specs.Terms.{RdfTerm, RdfTriple, same_triple, is_empty};
-ghost use Rattle.rdf_terms.specs.declared.side.SideName.{SideName};
+ghost use Rattle.rdf_meaning.specs.declared.side.SideName.{SideName};
 ghost use Rattle.query_meaning.specs.declared.pattern.Slot.{Slot};
-ghost use Rattle.query_meaning.specs.Mapping.{width};
-ghost use Rattle.query_meaning.specs.Eval.{join, left_join};
+ghost use Rattle.query_eval_meaning.specs.Mapping.{width};
+ghost use Rattle.query_eval_meaning.specs.Eval.{join, left_join};
 ghost use Rattle.query_plan_meaning.specs.declared.star.Arm.{Arm};
 ghost use Rattle.query_plan_meaning.specs.declared.star.Star.{Star};
 ghost use Rattle.query_plan_meaning.specs.declared.star.StarBody.TheVariants.{Either};

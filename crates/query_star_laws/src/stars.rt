@@ -4,11 +4,11 @@ ghost use Rattle.std.specs.Prelude.{◌≡◌, List, [], ◌++◌, map, true, fa
 ghost use Rattle.std.specs.List.{list_all, AllByRecursion, IsDistinct};
 ghost use Rattle.bags.specs.Bag.{SameBag};
 ghost use Rattle.rdf_meaning.specs.Terms.{RdfTriple, same_triple, is_empty};
-ghost use Rattle.rdf_terms.specs.declared.side.SideName.{SideName};
+ghost use Rattle.rdf_meaning.specs.declared.side.SideName.{SideName};
 ghost use Rattle.query_meaning.specs.declared.pattern.Slot.{Slot};
-ghost use Rattle.query_meaning.specs.Leaf.{leaf, terms_of};
-ghost use Rattle.query_meaning.specs.Width.{slot_in_width};
-ghost use Rattle.query_meaning.specs.Variables.{Binds, IsOver};
+ghost use Rattle.query_eval_meaning.specs.Leaf.{leaf, terms_of};
+ghost use Rattle.query_eval_meaning.specs.Width.{slot_in_width};
+ghost use Rattle.query_eval_meaning.specs.Variables.{Binds, IsOver};
 ghost use Rattle.query_plan_meaning.specs.declared.star.Arm.{Arm};
 ghost use Rattle.query_plan_meaning.specs.declared.star.Star.{Star};
 ghost use Rattle.query_plan_meaning.specs.declared.star.StarBody.TheVariants.{Either};

@@ -6,7 +6,7 @@ use Rattle.std.proofs.lemmas.List.{take_more, drop_more}
 use Rattle.bags.specs.Bag.{SameBag}
 use Rattle.bags.specs.BagLaws.{same-refl, same-trans, same-append, same-append_comm, same-length, same-any}
 use Rattle.rdf_meaning.specs.Terms.{RdfTerm, RdfTriple, same_triple}
-use Rattle.line_meaning.specs.Present.{with_triple}
+use Rattle.line_change_meaning.specs.Present.{with_triple}
 use Rattle.layout_meaning.specs.Columns.{candidates_of}
 use Rattle.layout_meaning.proofs.Changes.{next-placed}
 use Rattle.value_lists.specs.declared.lists.Put.{Put}

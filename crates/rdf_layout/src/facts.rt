@@ -9,7 +9,7 @@ ghost use Rattle.layout_facts_meaning.specs.Facts.{store_facts};
 use layout_facts::spilled_among;
 use layout_sides::TripleSides;
 use pred_columns::{LayoutFacts, Spilled};
-use rdf_terms::Term;
+use rdf_meaning::Term;
 use std::alloc::{AllocError, Global};
 use term_book::TermBook;
 

@@ -15,7 +15,7 @@ use crate::noted::noted;
 use crate::refusal::{MOST_TRIPLES, StoreRefusal};
 use layout_ids::has_forms;
 use layout_sides::IdTriple;
-use rdf_terms::Triple;
+use rdf_meaning::Triple;
 use shredder::Placed;
 use std::alloc::Global;
 use term_book::TermBook;

@@ -7,7 +7,7 @@ ghost use Rattle.layout_ids.specs.Noted.{HaveIds};
 use crate::refusal::{StoreRefusal, of_book};
 use layout_ids::note;
 use layout_sides::IdTriple;
-use rdf_terms::Triple;
+use rdf_meaning::Triple;
 use std::alloc::Global;
 use term_book::TermBook;
 

@@ -13,7 +13,7 @@ use crate::refusal::{MOST_TRIPLES, StoreRefusal};
 use layout_ids::{find, has_forms};
 use layout_sides::TripleSides;
 use primary_rows::Took;
-use rdf_terms::{Text, Triple};
+use rdf_meaning::{Text, Triple};
 use std::alloc::Global;
 use term_book::TermBook;
 use value_lists::Put;

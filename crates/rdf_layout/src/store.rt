@@ -32,7 +32,7 @@ use layout_sides::TripleSides;
 use layout_tables::{Tables, tables_of};
 use pred_columns::{Counts, LayoutFacts, QueryIds};
 use primary_rows::{Side, Took};
-use rdf_terms::{Term, Triple};
+use rdf_meaning::{Term, Triple};
 use std::alloc::{AllocError, Global};
 use std::marker::Model;
 use term_book::TermBook;

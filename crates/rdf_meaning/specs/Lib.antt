@@ -1,9 +1,7 @@
 pub mod Known
 pub mod Texts
 pub mod Characters
+pub mod Digits
 pub mod Terms
-pub mod Values
-pub mod TermOrder
 pub mod Spelling
 pub mod TermLaws
-pub mod OrderLaws

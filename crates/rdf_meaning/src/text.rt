@@ -13,13 +13,26 @@ use std::alloc::{AllocError, Global};
 use std::hash::{Hash, Hasher};
 use std::marker::Model;
 
-/// A datatype that many literals have: its IRI costs no memory.
+/// A datatype whose literals have values (XML Schema 1.1, part 2, section 3): its IRI costs no memory.
 #[derive(Clone, Copy, Debug, PartialEq, Eq)]
 pub enum KnownDatatype {
     String,
-    Integer,
-    Decimal,
     Boolean,
+    Decimal,
+    Integer,
+    Long,
+    Int,
+    Short,
+    Byte,
+    UnsignedLong,
+    UnsignedInt,
+    UnsignedShort,
+    UnsignedByte,
+    NonNegativeInteger,
+    PositiveInteger,
+    NonPositiveInteger,
+    NegativeInteger,
+    DateTime,
 }
 
 impl KnownDatatype {
@@ -29,9 +42,24 @@ impl KnownDatatype {
     {
         match self {
             KnownDatatype::String => "http://www.w3.org/2001/XMLSchema#string",
-            KnownDatatype::Integer => "http://www.w3.org/2001/XMLSchema#integer",
-            KnownDatatype::Decimal => "http://www.w3.org/2001/XMLSchema#decimal",
             KnownDatatype::Boolean => "http://www.w3.org/2001/XMLSchema#boolean",
+            KnownDatatype::Decimal => "http://www.w3.org/2001/XMLSchema#decimal",
+            KnownDatatype::Integer => "http://www.w3.org/2001/XMLSchema#integer",
+            KnownDatatype::Long => "http://www.w3.org/2001/XMLSchema#long",
+            KnownDatatype::Int => "http://www.w3.org/2001/XMLSchema#int",
+            KnownDatatype::Short => "http://www.w3.org/2001/XMLSchema#short",
+            KnownDatatype::Byte => "http://www.w3.org/2001/XMLSchema#byte",
+            KnownDatatype::UnsignedLong => "http://www.w3.org/2001/XMLSchema#unsignedLong",
+            KnownDatatype::UnsignedInt => "http://www.w3.org/2001/XMLSchema#unsignedInt",
+            KnownDatatype::UnsignedShort => "http://www.w3.org/2001/XMLSchema#unsignedShort",
+            KnownDatatype::UnsignedByte => "http://www.w3.org/2001/XMLSchema#unsignedByte",
+            KnownDatatype::NonNegativeInteger =>
+                "http://www.w3.org/2001/XMLSchema#nonNegativeInteger",
+            KnownDatatype::PositiveInteger => "http://www.w3.org/2001/XMLSchema#positiveInteger",
+            KnownDatatype::NonPositiveInteger =>
+                "http://www.w3.org/2001/XMLSchema#nonPositiveInteger",
+            KnownDatatype::NegativeInteger => "http://www.w3.org/2001/XMLSchema#negativeInteger",
+            KnownDatatype::DateTime => "http://www.w3.org/2001/XMLSchema#dateTime",
         }
     }
 }

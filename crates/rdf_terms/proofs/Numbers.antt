@@ -4,7 +4,7 @@ use Rattle.std.proofs.Math.Nat.{pow-le-pow_right}
 use Rattle.std.proofs.lemmas.Grind.{pow_more}
 use Rattle.std.proofs.lemmas.List.{reverse-append, reverse-reverse}
 use Rattle.std.specs.List.{prefix_len}
-use Rattle.rdf_meaning.specs.Values.{number_of_digits, without_leading_zeros, without_trailing_zeros, is_zero}
+use Rattle.rdf_meaning.specs.Digits.{number_of_digits, without_leading_zeros, without_trailing_zeros, is_zero}
 
 -- so far a number with at most i digits, each at most 207
 pub record IsBelow (n i : ℕ) : Type 0 where

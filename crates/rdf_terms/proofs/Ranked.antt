@@ -5,7 +5,7 @@ use Rattle.rdf_meaning.specs.declared.kind.TermKind.{TermKind}
 use Rattle.rdf_meaning.specs.declared.kind.TermKind.TheVariants.{Iri, Blank, Tagged, Typed}
 use Rattle.rdf_meaning.specs.declared.text.KnownDatatype.TheVariants.{String, Integer, Decimal, Boolean}
 use Rattle.rdf_meaning.specs.Known.{known_bytes}
-use Rattle.rdf_meaning.specs.Values.{Numeral, is_in_width, value_of_numeral, integer_numeral, decimal_numeral, truth_of_text, class_of_numeral, class_of_truth, class_of_typed, value_in_width, value_of_truth, value_of_typed, class_of_kind, value_of_kind}
+use Rattle.rdf_value_meaning.specs.Values.{Numeral, is_in_width, value_of_numeral, integer_numeral, decimal_numeral, truth_of_text, class_of_numeral, class_of_truth, class_of_typed, value_in_width, value_of_truth, value_of_typed, class_of_kind, value_of_kind}
 use Rattle.rdf_terms.specs.Ranks.{rank_of_numeral, rank_of_truth, rank_of_typed}
 
 -- a class and a value that are a rank's parts, where a value stands with classes 3 and 4 alone

@@ -3,7 +3,7 @@ use Rattle.std.specs.Prelude.{ℕ, ℤ, pos, Bool, if◌then◌else◌, List, Op
 use Rattle.std.specs.Str.{bytes_eq}
 use Rattle.rdf_meaning.specs.declared.text.KnownDatatype.TheVariants.{String, Integer, Decimal, Boolean}
 use Rattle.rdf_meaning.specs.Known.{known_bytes}
-use Rattle.rdf_meaning.specs.Values.{Numeral, is_in_width, value_of_numeral, integer_numeral, decimal_numeral, truth_of_text}
+use Rattle.rdf_value_meaning.specs.Values.{Numeral, is_in_width, value_of_numeral, integer_numeral, decimal_numeral, truth_of_text}
 
 abbrev pub rank_of_numeral : Option Numeral → ℕ × Option ℤ
 rank_of_numeral None = (8, None)

@@ -2,23 +2,19 @@
 #![tactic(auto, using(crate::proofs::Numbers::below_none, crate::proofs::Numbers::below_next, crate::proofs::Numbers::trailing_zero, crate::proofs::Numbers::trailing_other, crate::proofs::Numbers::below_eighteen, crate::proofs::Numbers::zeros_count_nothing))]
 
 ghost use Rattle.std.specs.Prelude.{◌≡◌, ◌+◌, ◌-◌, ◌*◌, ◌^◌, ◌<◌, ◌≤◌, ◌++◌, length, take, replicate, Option, Some, None, slice_index};
-ghost use Rattle.std.specs.List.{prefix_len, list_all};
+ghost use Rattle.std.specs.List.{prefix_len};
 ghost use Rattle.rdf_meaning.specs.Characters.{is_digit};
-ghost use Rattle.rdf_meaning.specs.Values.{has_minus, without_sign, is_zero, without_leading_zeros, without_trailing_zeros, number_of_digits, integer_numeral, decimal_numeral, signed};
+ghost use Rattle.rdf_meaning.specs.Digits.{is_zero, without_leading_zeros, without_trailing_zeros, number_of_digits};
+ghost use Rattle.rdf_value_meaning.specs.Values.{has_minus, without_sign, integer_numeral, decimal_numeral, signed};
 ghost use Rattle.rdf_terms.specs.Ranks.{rank_of_numeral};
+
+use rdf_spelling::{are_digits, is_digit};
 
 /// The class and the value of a literal whose datatype has values.
 pub(crate) type Rank = (u8, Option<i128>);
 
 // Out of the form of its datatype.
 const ILL_FORMED: u8 = 8;
-
-/// Whether a byte is a decimal digit.
-pub fn is_digit(byte: u8) -> bool
-    ensures { result ≡ is_digit byte }
-{
-    byte.is_ascii_digit()
-}
 
 // Whether a minus stands first, and what follows the sign.
 fn split_sign(text: &[u8]) -> (bool, &[u8])
@@ -33,13 +29,6 @@ fn split_sign(text: &[u8]) -> (bool, &[u8])
         b'+' => (false, rest),
         _ => (false, text),
     }
-}
-
-/// Whether all bytes are decimal digits; so it is where there are none.
-pub fn are_digits(text: &[u8]) -> bool
-    ensures { result ≡ list_all is_digit text.now }
-{
-    text.iter().all(|byte| is_digit(*byte))
 }
 
 // How many digits stand in front.

@@ -3,9 +3,9 @@
 ghost use Rattle.std.specs.Prelude.{◌≡◌, ◌↔◌, ◌⊎◌, IsSome};
 ghost use Rattle.std.specs.Str.{bytes_eq};
 ghost use Rattle.rdf_meaning.specs.Known.{known_bytes};
-ghost use Rattle.rdf_meaning.specs.Values.{class_of, value_of};
+ghost use Rattle.rdf_value_meaning.specs.Values.{class_of, value_of};
 ghost use Rattle.rdf_terms.specs.Ranks.{rank_of_typed, rank_of_truth};
-ghost use Rattle.rdf_meaning.specs.Values.{truth_of_text};
+ghost use Rattle.rdf_value_meaning.specs.Values.{truth_of_text};
 
 use crate::number::{Rank, rank_of_decimal, rank_of_integer};
 use rdf_meaning::{KnownDatatype, Term, TermKind};

@@ -14,9 +14,9 @@ use Rattle.bags.specs.Bag.{SameBag}
 use Rattle.bags.specs.BagLaws.{same-length}
 use Rattle.rdf_meaning.specs.Terms.{RdfTerm, RdfTriple, same_term, same_triple}
 use Rattle.rdf_meaning.specs.TermLaws.{same_term-self, same_triple-is, same_triple-self, same_triple_equiv}
-use Rattle.line_meaning.specs.declared.change.Change.{Change}
-use Rattle.line_meaning.specs.declared.change.Change.TheVariants.{Add, Delete}
-use Rattle.line_meaning.specs.Present.{named, says_of, is_present, with_triple, all_named, present}
+use Rattle.line_change_meaning.specs.declared.change.Change.{Change}
+use Rattle.line_change_meaning.specs.declared.change.Change.TheVariants.{Add, Delete}
+use Rattle.line_change_meaning.specs.Present.{named, says_of, is_present, with_triple, all_named, present}
 use Rattle.run_meaning.specs.Limits.{with_term, with_needed, terms_needed, passed_at, passed_from, passed_limit, or_later}
 use Rattle.rdf_triples.specs.Held.{Held}
 use Rattle.rdf_triples.specs.PresentLaws.{nothing_distinct, present_distinct}

@@ -8,7 +8,7 @@ use Rattle.std.proofs.lemmas.Map.Views.{Contains-from_any, list_any-from_Contain
 use Rattle.std.proofs.lemmas.List.{append-nil}
 use Rattle.rdf_meaning.specs.Terms.{RdfTerm, RdfTriple, same_term}
 use Rattle.rdf_meaning.specs.TermLaws.{same_term-is, same_term_equiv}
-use Rattle.line_meaning.specs.declared.change.Change.TheVariants.{Add}
+use Rattle.line_change_meaning.specs.declared.change.Change.TheVariants.{Add}
 use Rattle.term_book.specs.Book.{IsNoted, IsFull}
 use Rattle.run_meaning.specs.Limits.{with_term, with_needed}
 use Rattle.rdf_triples.specs.Held.{Grows}

@@ -6,8 +6,8 @@ use Rattle.std.proofs.lemmas.Map.Keys.{IsDistinct-push, IsDistinct-head, IsDisti
 use Rattle.bags.specs.BagLaws.{each-filter}
 use Rattle.rdf_meaning.specs.Terms.{RdfTriple, same_triple}
 use Rattle.rdf_meaning.specs.TermLaws.{same_triple_equiv}
-use Rattle.line_meaning.specs.declared.change.Change.{Change}
-use Rattle.line_meaning.specs.Present.{named, is_present, with_triple, all_named, present}
+use Rattle.line_change_meaning.specs.declared.change.Change.{Change}
+use Rattle.line_change_meaning.specs.Present.{named, is_present, with_triple, all_named, present}
 
 stays_distinct : (ts : List RdfTriple) (x : RdfTriple) → IsDistinct same_triple ts → IsDistinct same_triple (with_triple ts x)
 stays_distinct ts x d = go (cases_Bool (list_any (same_triple x) ts))

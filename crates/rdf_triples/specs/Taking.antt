@@ -3,8 +3,8 @@ use Rattle.std.specs.Prelude.{Bool, ◌+◌, nat_lt, List, [], ◌∷◌, ◌++�
 use Rattle.std.specs.List.{list_any}
 use Rattle.indexmap.specs.IndexSet.{swap_remove_by}
 use Rattle.rdf_meaning.specs.Terms.{RdfTriple, same_triple}
-use Rattle.line_meaning.specs.declared.change.Change.{Change}
-use Rattle.line_meaning.specs.declared.change.Change.TheVariants.{Add, Delete}
+use Rattle.line_change_meaning.specs.declared.change.Change.{Change}
+use Rattle.line_change_meaning.specs.declared.change.Change.TheVariants.{Add, Delete}
 use Rattle.run_meaning.specs.declared.which.Which.{Which}
 use Rattle.run_meaning.specs.declared.which.Which.TheVariants.{Terms, Triples}
 use Rattle.run_meaning.specs.Limits.{with_needed, or_later}

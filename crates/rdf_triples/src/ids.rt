@@ -1,12 +1,12 @@
 //! Triples as numbers of terms.
 
 ghost use Rattle.std.specs.Prelude.{◌≡◌, ◌<◌, ◌≤◌, length, IfOk, OnOk, IsErrOf, MatchOption};
-ghost use Rattle.line_meaning.specs.declared.change.Change.TheVariants.{Add};
+ghost use Rattle.line_change_meaning.specs.declared.change.Change.TheVariants.{Add};
 ghost use Rattle.run_meaning.specs.Limits.{with_term, with_needed};
 ghost use Rattle.term_book.specs.Book.{HasId};
 ghost use Rattle.rdf_triples.specs.Held.{HasIds, LacksTerm, Grows};
 
-use rdf_terms::{Term, TermId, Triple};
+use rdf_meaning::{Term, TermId, Triple};
 use std::alloc::Global;
 use term_book::{BookRefusal, TermBook};
 

@@ -7,7 +7,7 @@ ghost use Rattle.rdf_meaning.specs.Characters.{is_letter, is_digit};
 ghost use Rattle.table_meaning.specs.Names.{is_name, is_name_byte, begins_with_letter, is_capital_word, is_among, body_words, source_words, order_words, value_words, test_words, case_words};
 ghost use Rattle.table_meaning.specs.Ints.{int_of, is_int_form, is_digits, begins_with_zero};
 
-use rdf_terms::{are_digits, is_digit};
+use rdf_spelling::{are_digits, is_digit};
 use std::str;
 
 fn is_letter(byte: u8) -> bool

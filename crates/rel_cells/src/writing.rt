@@ -4,13 +4,13 @@
 ghost use Rattle.std.specs.Prelude.{◌≡◌, ◌++◌, IsTrue, OnOk, OnErr};
 ghost use Rattle.table_meaning.specs.Ints.{int_text};
 ghost use Rattle.table_meaning.specs.CellText.{cell_text};
-ghost use Rattle.table_meaning.specs.TableText.{is_held_cell};
+ghost use Rattle.table_meaning.specs.CellText.{is_held_cell};
 ghost use Rattle.rel_cells.specs.Fronts.{KeepsFront};
 ghost use Rattle.rel_cells.specs.Seen.{seen_cell};
 
 use crate::view::CellView;
 use itoa::Buffer;
-use rdf_terms::write_text;
+use rdf_spelling::write_text;
 use std::alloc::AllocError;
 
 fn write_int(number: i128, into: &mut Vec<u8>) -> Result<(), AllocError>

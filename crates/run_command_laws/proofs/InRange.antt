@@ -3,7 +3,7 @@ use Rattle.std.proofs.Common.{◌≡◌, ℕ, Bool, true, false, if◌then◌els
 use Rattle.std.specs.Prelude.{IfSome, unwrap_or}
 use Rattle.std.specs.Str.{bytes_eq}
 use Rattle.rdf_meaning.specs.Characters.{is_between}
-use Rattle.rdf_meaning.specs.Values.{number_of_digits}
+use Rattle.rdf_meaning.specs.Digits.{number_of_digits}
 use Rattle.run_meaning.specs.declared.command.Layout.{Layout}
 use Rattle.run_meaning.specs.declared.command.Options.{Options}
 use Rattle.run_meaning.specs.declared.command.Command.{Command}

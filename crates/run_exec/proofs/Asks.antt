@@ -3,7 +3,7 @@ use Rattle.std.proofs.Common.{◌≡◌, ℕ, ◌-◌, List, length, take, drop,
 use Rattle.std.proofs.lemmas.List.{take_rest}
 use Rattle.std.specs.Prelude.{Err}
 use Rattle.table_meaning.specs.Tables.{NamedTable}
-use Rattle.table_meaning.specs.TableText.{TablesRead}
+use Rattle.table_text_meaning.specs.TableText.{TablesRead}
 use Rattle.sql_meaning.specs.Texts.{SpellsOnly}
 use Rattle.sql_meaning.specs.declared.script.Script.{Script}
 use Rattle.sql_text.specs.declared.refusal.SqlRefusal.{SqlRefusal}

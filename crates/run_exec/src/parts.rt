@@ -2,7 +2,7 @@
 
 ghost use Rattle.std.specs.Prelude.{◌≤◌, IfOk, IfErr, Err, List, drop, length, IsTrue};
 ghost use Rattle.table_meaning.specs.Tables.{NamedTable};
-ghost use Rattle.table_meaning.specs.TableText.{TablesRead};
+ghost use Rattle.table_text_meaning.specs.TableText.{TablesRead};
 ghost use Rattle.sql_meaning.specs.Texts.{SpellsOnly};
 ghost use Rattle.sql_meaning.specs.Scripts.{script_form};
 ghost use Rattle.run_outcome_meaning.specs.Outcome.{SqlAsks, ScriptAsks, judged_script};

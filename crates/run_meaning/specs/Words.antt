@@ -4,7 +4,7 @@ use Rattle.std.specs.List.{list_all}
 use Rattle.std.specs.Str.{bytes_eq}
 use Rattle.rdf_meaning.specs.Characters.{is_digit, is_between}
 use Rattle.rdf_meaning.specs.Terms.{is_empty}
-use Rattle.rdf_meaning.specs.Values.{number_of_digits}
+use Rattle.rdf_meaning.specs.Digits.{number_of_digits}
 use Rattle.run_meaning.specs.declared.command.Layout.{Layout}
 use Rattle.run_meaning.specs.declared.command.Layout.TheVariants.{Colour, Hash, File}
 use Rattle.run_meaning.specs.declared.command.Options.{Options}

@@ -2,7 +2,7 @@
 use Rattle.std.specs.Prelude.{◌≡◌, ℕ, Bool, true, false, List, drop, length, Result, Ok, Err, nat_lt}
 use Rattle.std.specs.Bool.{MatchBool}
 use Rattle.std.proofs.Common.{refl, sym, ap, subst, ◌∙◌}
-use Rattle.line_meaning.specs.declared.change.Change.{Change}
+use Rattle.line_change_meaning.specs.declared.change.Change.{Change}
 use Rattle.colouring_file_meaning.specs.ColourLines.{ColourOf}
 use Rattle.query_meaning.specs.declared.query.Query.{Query as AlgebraQuery}
 use Rattle.sparql_query_meaning.specs.declared.refusal.QueryRefusal.{QueryRefusal}

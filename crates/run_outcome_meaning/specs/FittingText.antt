@@ -1,10 +1,10 @@
 -- The text that fits the work.
 use Rattle.std.specs.Prelude.{◌≡◌, ℕ, ◌++◌, List, [], map, take, Option, Some, IfSome, Ok, slice_index_or}
 use Rattle.rdf_meaning.specs.Terms.{RdfTriple}
-use Rattle.line_meaning.specs.Present.{present}
+use Rattle.line_change_meaning.specs.Present.{present}
 use Rattle.query_meaning.specs.declared.query.Query.{Query}
-use Rattle.query_meaning.specs.AnswerText.{answer_text}
-use Rattle.query_meaning.specs.Eval.{answer_of}
+use Rattle.query_eval_meaning.specs.AnswerText.{answer_text}
+use Rattle.query_eval_meaning.specs.Eval.{answer_of}
 use Rattle.table_meaning.specs.declared.schema.Column.{Column}
 use Rattle.table_meaning.specs.Tables.{NamedTable}
 use Rattle.table_meaning.specs.CellText.{cells_text}

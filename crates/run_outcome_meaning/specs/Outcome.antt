@@ -1,14 +1,14 @@
 -- What the words and the contents of the named files ask for: the first status that applies, or the work to be done.
 use Rattle.std.specs.Prelude.{◌≡◌, ℕ, ◌++◌, List, [], ◌∷◌, length, drop, Option, Some, None, Result, Ok, Err, IsTrue, is_ok, nat_lt, if◌then◌else◌}
 use Rattle.std.specs.Bool.{MatchBool}
-use Rattle.line_meaning.specs.declared.change.Change.{Change}
+use Rattle.line_change_meaning.specs.declared.change.Change.{Change}
 use Rattle.line_meaning.specs.Changes.{Refused, TooLong, Bad, changes_of}
 use Rattle.colouring_file_meaning.specs.ColourLines.{ColourOf}
 use Rattle.colouring_file_meaning.specs.ColourReader.{colours_of}
 use Rattle.query_meaning.specs.declared.query.Query.{Query as AlgebraQuery}
 use Rattle.table_meaning.specs.declared.schema.Column.{Column}
 use Rattle.table_meaning.specs.Tables.{NamedTable}
-use Rattle.table_meaning.specs.TableText.{TablesRead, IsFirstBadLine}
+use Rattle.table_text_meaning.specs.TableText.{TablesRead, IsFirstBadLine}
 use Rattle.sql_meaning.specs.declared.script.Script.{Script}
 use Rattle.sql_meaning.specs.Texts.{SpellsOnly, HasDeepToken, BreaksAt}
 use Rattle.sql_rows_meaning.specs.declared.fault.Fault.{Fault}

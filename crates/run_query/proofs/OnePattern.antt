@@ -5,8 +5,8 @@ use Rattle.std.proofs.lemmas.Bool.{and_parts, eqb-true}
 use Rattle.std.proofs.lemmas.Option.{unwrap_or-slice_get}
 use Rattle.bags.specs.Bag.{SameBag}
 use Rattle.rdf_meaning.specs.Terms.{RdfTriple, is_empty}
-use Rattle.line_meaning.specs.declared.change.Change.{Change}
-use Rattle.line_meaning.specs.Present.{present}
+use Rattle.line_change_meaning.specs.declared.change.Change.{Change}
+use Rattle.line_change_meaning.specs.Present.{present}
 use Rattle.query_meaning.specs.declared.pattern.Pattern.{Pattern}
 use Rattle.query_meaning.specs.declared.modifiers.Key.{Key}
 use Rattle.query_meaning.specs.declared.modifiers.Modifiers.{Modifiers}
@@ -14,12 +14,12 @@ use Rattle.query_meaning.specs.declared.query.Query.{Query}
 use Rattle.query_meaning.specs.declared.tree.Tree.{Tree, out-Tree}
 use Rattle.query_meaning.specs.declared.tree.Tree.TheOpen as layer
 use Rattle.query_meaning.specs.declared.tree.Tree.TheOpen.{Tree-F}
-use Rattle.query_meaning.specs.Mapping.{Mapping}
-use Rattle.query_meaning.specs.Leaf.{leaf}
-use Rattle.query_meaning.specs.Eval.{solutions, answer_of}
-use Rattle.query_meaning.specs.EvalLaws.{eval_at-Leaf}
-use Rattle.query_meaning.specs.Answer.{Row, ordered_answer}
-use Rattle.query_meaning.specs.AnswerText.{answer_text}
+use Rattle.query_eval_meaning.specs.Mapping.{Mapping}
+use Rattle.query_eval_meaning.specs.Leaf.{leaf}
+use Rattle.query_eval_meaning.specs.Eval.{solutions, answer_of}
+use Rattle.query_eval_meaning.specs.EvalLaws.{eval_at-Leaf}
+use Rattle.query_eval_meaning.specs.Answer.{Row, ordered_answer}
+use Rattle.query_eval_meaning.specs.AnswerText.{answer_text}
 use Rattle.query_pattern_answer.specs.Rows.{name_of, names_at, showing, pattern_text}
 use Rattle.run_outcome_meaning.specs.QueryFile.{pattern_of_leaf, only_pattern, is_plain, is_answered}
 use Rattle.run_outcome_meaning.specs.FittingText.{shown_names, query_text}

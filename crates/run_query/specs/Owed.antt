@@ -1,6 +1,6 @@
 -- What a query that was read asks for behind changes.
 use Rattle.std.specs.Prelude.{◌≡◌, List, Ok, Err}
-use Rattle.line_meaning.specs.declared.change.Change.{Change}
+use Rattle.line_change_meaning.specs.declared.change.Change.{Change}
 use Rattle.query_meaning.specs.declared.query.Query.{Query}
 use Rattle.run_meaning.specs.declared.status.Status.{Status}
 use Rattle.run_outcome_meaning.specs.QueryFile.{judged_query}

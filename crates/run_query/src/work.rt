@@ -2,8 +2,8 @@
 
 ghost use Rattle.std.specs.Prelude.{◌≡◌, true, List, Some, IfOk, IfErr, OnOk, Ok, Err};
 ghost use Rattle.bags.specs.Bag.{SameBag};
-ghost use Rattle.line_meaning.specs.declared.change.Change.{Change};
-ghost use Rattle.line_meaning.specs.Present.{present};
+ghost use Rattle.line_change_meaning.specs.declared.change.Change.{Change};
+ghost use Rattle.line_change_meaning.specs.Present.{present};
 ghost use Rattle.run_outcome_meaning.specs.QueryFile.{only_pattern, is_answered, QueryAsks};
 ghost use Rattle.run_outcome_meaning.specs.Outcome.{Work, answering, judged_work, AnswerAsks};
 ghost use Rattle.run_outcome_meaning.specs.FittingText.{query_text, FitsText};
@@ -13,7 +13,7 @@ ghost use Rattle.sparql_reader.specs.Queries.{ReadsQuery};
 
 use crate::forms::asked_pattern;
 use crate::refusals::status_of;
-use line_meaning::Change;
+use line_change_meaning::Change;
 use query_meaning::{Pattern, Query};
 use query_pattern_answer::answer;
 use rdf_triples::{LoadRefusal, PlainTriples, load};

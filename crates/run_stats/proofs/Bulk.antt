@@ -3,9 +3,9 @@ use Rattle.std.proofs.Common.{◌≡◌, ◌≢◌, ℕ, ◌+◌, nat_le, nat_lt
 use Rattle.std.specs.List.{list_any}
 use Rattle.std.proofs.lemmas.List.{map-append}
 use Rattle.rdf_meaning.specs.Terms.{RdfTerm, RdfTriple, same_triple}
-use Rattle.line_meaning.specs.declared.change.Change.{Change}
-use Rattle.line_meaning.specs.declared.change.Change.TheVariants.{Add}
-use Rattle.line_meaning.specs.Present.{is_present, present}
+use Rattle.line_change_meaning.specs.declared.change.Change.{Change}
+use Rattle.line_change_meaning.specs.declared.change.Change.TheVariants.{Add}
+use Rattle.line_change_meaning.specs.Present.{is_present, present}
 use Rattle.layout_standing_meaning.specs.Changes.{with_terms}
 use Rattle.run_meaning.specs.declared.which.Which.{Which}
 use Rattle.run_meaning.specs.declared.which.Which.TheVariants as which

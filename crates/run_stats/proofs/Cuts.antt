@@ -2,9 +2,9 @@
 use Rattle.std.proofs.Common.{◌≡◌, List, [], ◌∷◌, ◌++◌, map, refl, sym, ap, ◌∙◌}
 use Rattle.std.proofs.lemmas.List.Sums.{take_while-cons}
 use Rattle.rdf_meaning.specs.Terms.{RdfTriple}
-use Rattle.line_meaning.specs.declared.change.Change.{Change}
-use Rattle.line_meaning.specs.declared.change.Change.TheVariants.{Add, Delete}
-use Rattle.line_meaning.specs.Present.{named, is_no_delete, bulk}
+use Rattle.line_change_meaning.specs.declared.change.Change.{Change}
+use Rattle.line_change_meaning.specs.declared.change.Change.TheVariants.{Add, Delete}
+use Rattle.line_change_meaning.specs.Present.{named, is_no_delete, bulk}
 use Rattle.layout_placed_meaning.specs.Placed.{later_changes}
 use Rattle.run_stats.specs.Cutting.{bulk_then, later_then}
 

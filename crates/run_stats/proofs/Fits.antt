@@ -3,9 +3,9 @@ use Rattle.std.proofs.Common.{◌≡◌, ℕ, ◌+◌, ◌<◌, ◌^◌, Bool, t
 use Rattle.std.specs.Global.{Vec}
 use Rattle.bags.specs.Bag.{SameBag}
 use Rattle.rdf_meaning.specs.Terms.{RdfTriple}
-use Rattle.line_meaning.specs.declared.change.Change.{Change}
-use Rattle.line_meaning.specs.declared.change.Change.TheVariants.{Add}
-use Rattle.line_meaning.specs.Present.{named, bulk, present}
+use Rattle.line_change_meaning.specs.declared.change.Change.{Change}
+use Rattle.line_change_meaning.specs.declared.change.Change.TheVariants.{Add}
+use Rattle.line_change_meaning.specs.Present.{named, bulk, present}
 use Rattle.layout_standing_meaning.specs.Stored.{StoreOf, layout_of, tables_of, stored_triples}
 use Rattle.layout_stats_meaning.specs.Statistics.{StatsOf, AreStats}
 use Rattle.layout_bulk_laws.specs.BulkStore.{terms_of, bulk_items, bulk_store}
@@ -18,8 +18,8 @@ use Rattle.run_command_laws.specs.Ranges.{AreInRange}
 use Rattle.run_meaning.specs.declared.command.Layout.{Layout}
 use Rattle.run_meaning.specs.declared.command.Layout.TheVariants.{Colour, Hash, File}
 use Rattle.run_meaning.specs.declared.command.Options.{Options}
-use Rattle.rdf_terms.specs.declared.side.SideName.{SideName}
-use Rattle.rdf_terms.specs.declared.side.SideName.TheVariants.{Direct, Reverse}
+use Rattle.rdf_meaning.specs.declared.side.SideName.{SideName}
+use Rattle.rdf_meaning.specs.declared.side.SideName.TheVariants.{Direct, Reverse}
 use Rattle.pred_columns.specs.Refusal.{known_of}
 use Rattle.colouring_file_meaning.specs.ColourLines.{ColourOf, same_side, AreFit}
 use Rattle.colouring_file.specs.Colours.{colour_of}

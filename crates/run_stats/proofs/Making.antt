@@ -5,9 +5,9 @@ use Rattle.std.proofs.lemmas.List.Sums.{fold-append}
 use Rattle.bags.specs.Bag.{SameBag}
 use Rattle.bags.specs.BagLaws.{same-refl, same-sym, same-trans, same-append, same-length, same-any, same-rest}
 use Rattle.rdf_meaning.specs.Terms.{RdfTriple, same_triple}
-use Rattle.line_meaning.specs.declared.change.Change.{Change}
-use Rattle.line_meaning.specs.declared.change.Change.TheVariants.{Add, Delete}
-use Rattle.line_meaning.specs.Present.{is_present, present}
+use Rattle.line_change_meaning.specs.declared.change.Change.{Change}
+use Rattle.line_change_meaning.specs.declared.change.Change.TheVariants.{Add, Delete}
+use Rattle.line_change_meaning.specs.Present.{is_present, present}
 use Rattle.layout_meaning.specs.Columns.{candidates_of}
 use Rattle.layout_meaning.proofs.Changes.{next-placed}
 use Rattle.layout_standing_meaning.specs.Schemas.{LayoutOf}

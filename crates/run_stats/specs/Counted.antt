@@ -1,8 +1,8 @@
 -- What is counted of changes, under the layout that options ask for.
 use Rattle.std.specs.Prelude.{List}
 use Rattle.std.specs.Global.{Vec}
-use Rattle.line_meaning.specs.declared.change.Change.{Change}
-use Rattle.line_meaning.specs.Present.{present}
+use Rattle.line_change_meaning.specs.declared.change.Change.{Change}
+use Rattle.line_change_meaning.specs.Present.{present}
 use Rattle.colouring_file_meaning.specs.ColourLines.{ColourOf}
 use Rattle.run_meaning.specs.declared.command.Layout.{Layout}
 use Rattle.run_meaning.specs.declared.command.Layout.TheVariants.{Colour, Hash, File}

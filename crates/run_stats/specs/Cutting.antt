@@ -1,8 +1,8 @@
 -- What is cut of changes after one more.
 use Rattle.std.specs.Prelude.{List, [], ◌∷◌, ◌++◌}
 use Rattle.rdf_meaning.specs.Terms.{RdfTriple}
-use Rattle.line_meaning.specs.declared.change.Change.{Change}
-use Rattle.line_meaning.specs.declared.change.Change.TheVariants.{Add, Delete}
+use Rattle.line_change_meaning.specs.declared.change.Change.{Change}
+use Rattle.line_change_meaning.specs.declared.change.Change.TheVariants.{Add, Delete}
 
 -- the bulk and the later changes after one more; once a deletion came, it is a later one
 abbrev pub bulk_then : List RdfTriple → List Change → Change → List RdfTriple

@@ -1,8 +1,8 @@
 -- What a change needs of a store, and what is held after it.
 use Rattle.std.specs.Prelude.{◌+◌, ◌<◌, ◌^◌, nat_lt, if◌then◌else◌, ◌∷◌, length, Option, Some, None}
 use Rattle.bags.specs.Bag.{SameBag}
-use Rattle.line_meaning.specs.declared.change.Change.{Change}
-use Rattle.line_meaning.specs.declared.change.Change.TheVariants.{Add, Delete}
+use Rattle.line_change_meaning.specs.declared.change.Change.{Change}
+use Rattle.line_change_meaning.specs.declared.change.Change.TheVariants.{Add, Delete}
 use Rattle.layout_standing_meaning.specs.Stored.{StoreOf, stored_triples}
 use Rattle.layout_standing_meaning.specs.Changes.{with_terms, is_stored}
 use Rattle.run_meaning.specs.declared.which.Which.{Which}

@@ -1,16 +1,16 @@
 //! Single changes of a store, within the limits.
 
 ghost use Rattle.std.specs.Prelude.{◌≡◌, OnOk, IfErr, None};
-ghost use Rattle.line_meaning.specs.declared.change.Change.TheVariants.{Add};
+ghost use Rattle.line_change_meaning.specs.declared.change.Change.TheVariants.{Add};
 ghost use Rattle.layout_standing_meaning.specs.Changes.{stored_in};
 ghost use Rattle.layout_placed_meaning.specs.Placed.{changed_in};
 ghost use Rattle.rdf_triples.specs.Refusals.{Refuses};
 ghost use Rattle.run_stats.specs.Limited.{LeavesIds, HoldsAfter, limit_at};
 
 use crate::refusal::load_refusal;
-use line_meaning::Change;
+use line_change_meaning::Change;
 use rdf_layout::Store;
-use rdf_terms::Triple;
+use rdf_meaning::Triple;
 use rdf_triples::LoadRefusal;
 use std::alloc::Global;
 

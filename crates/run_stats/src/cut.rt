@@ -1,12 +1,12 @@
 //! Changes cut before the first deletion.
 
 ghost use Rattle.std.specs.Prelude.{◌≡◌, IfOk, OnOk, IfErr, map};
-ghost use Rattle.line_meaning.specs.Present.{named, bulk};
+ghost use Rattle.line_change_meaning.specs.Present.{named, bulk};
 ghost use Rattle.layout_placed_meaning.specs.Placed.{later_changes};
 ghost use Rattle.run_stats.specs.Cutting.{bulk_then, later_then};
 
-use line_meaning::Change;
-use rdf_terms::Triple;
+use line_change_meaning::Change;
+use rdf_meaning::Triple;
 use rdf_triples::LoadRefusal;
 use std::alloc::Global;
 

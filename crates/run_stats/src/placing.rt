@@ -2,8 +2,8 @@
 
 ghost use Rattle.std.specs.Prelude.{◌≡◌, ◌+◌, ◌<◌, ◌^◌, ◌++◌, IfOk, OnOk, IfErr, None, map, fold, length};
 ghost use Rattle.bags.specs.Bag.{SameBag};
-ghost use Rattle.line_meaning.specs.declared.change.Change.TheVariants.{Add};
-ghost use Rattle.line_meaning.specs.Present.{present};
+ghost use Rattle.line_change_meaning.specs.declared.change.Change.TheVariants.{Add};
+ghost use Rattle.line_change_meaning.specs.Present.{present};
 ghost use Rattle.layout_standing_meaning.specs.Stored.{layout_of, stored_triples};
 ghost use Rattle.run_meaning.specs.Limits.{passed_limit};
 ghost use Rattle.layout_bulk_laws.specs.BulkStore.{terms_of, bulk_items, bulk_store};
@@ -13,9 +13,9 @@ ghost use Rattle.rdf_triples.specs.Refusals.{Refuses};
 
 use crate::changing::make;
 use crate::refusal::load_refusal;
-use line_meaning::Change;
+use line_change_meaning::Change;
 use rdf_layout::{LayoutChoice, Store};
-use rdf_terms::Triple;
+use rdf_meaning::Triple;
 use rdf_triples::LoadRefusal;
 use std::alloc::Global;
 

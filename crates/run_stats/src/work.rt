@@ -14,7 +14,7 @@ use crate::cut::cut_at_deletion;
 use crate::placing::place;
 use crate::text::text_of;
 use colouring_file::ColourLine;
-use line_meaning::Change;
+use line_change_meaning::Change;
 use rdf_layout::Stats;
 use rdf_triples::LoadRefusal;
 use run_meaning::Options;

@@ -3,10 +3,11 @@
 ghost use Rattle.std.specs.Prelude.{◌≡◌, ◌≤◌, true, IfOk, length, map, option_map, string_bytes};
 ghost use Rattle.std.specs.List.{list_all};
 ghost use Rattle.rdf_meaning.specs.Characters.{is_digit};
-ghost use Rattle.rdf_meaning.specs.Values.{number_of_digits};
+ghost use Rattle.rdf_meaning.specs.Digits.{number_of_digits};
 ghost use Rattle.run_meaning.specs.Words.{is_option, is_plain_number, number_in, once, layout_word, file_word, with_number, with_layout, with_option, split_options, options_of, only_pieces, two_names, one_name, two_numbers, over_two_files, exec_from, command_from, command_of, none_given};
 
-use rdf_terms::{Text, are_digits, text_of};
+use rdf_meaning::{Text, text_of};
+use rdf_spelling::are_digits;
 use run_meaning::{Command, Layout, Options};
 use std::alloc::{AllocError, Global};
 use std::marker::Model;

@@ -10,7 +10,7 @@ ghost use Rattle.shredder.specs.Items.{item_of, placed_order};
 
 use pred_columns::Columns;
 use primary_rows::Side;
-use rdf_terms::TermId;
+use rdf_meaning::TermId;
 use std::alloc::{AllocError, Global};
 use std::cmp::Ordering;
 use term_book::TermBook;

@@ -4,8 +4,8 @@ use Rattle.std.proofs.Common.{sym, ap, ap₂, ◌∙◌}
 use Rattle.query_meaning.specs.declared.expression.TruthExpr.{TruthExpr}
 use Rattle.query_meaning.specs.declared.tree.Tree.{Tree}
 use Rattle.query_meaning.specs.declared.tree.Tree.TheVariants as trees
-use Rattle.query_meaning.specs.Variables.{Variables, in_either, in_both, certain_of}
-use Rattle.query_meaning.specs.VariableLaws.{certain-Leaf, certain-Join, certain-LeftJoin, certain-Union, certain-Filter}
+use Rattle.query_eval_meaning.specs.Variables.{Variables, in_either, in_both, certain_of}
+use Rattle.query_eval_meaning.specs.VariableLaws.{certain-Leaf, certain-Join, certain-LeftJoin, certain-Union, certain-Filter}
 use Rattle.sparql_variables.specs.Bits.{members}
 
 -- the set has these variables and no others

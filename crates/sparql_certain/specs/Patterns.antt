@@ -4,8 +4,8 @@ use Rattle.std.proofs.Common.{sym, ap, ◌∙◌}
 use Rattle.rdf_meaning.specs.Terms.{RdfTerm}
 use Rattle.query_meaning.specs.declared.pattern.Slot.TheVariants as slot
 use Rattle.query_meaning.specs.declared.pattern.Pattern.{Pattern}
-use Rattle.query_meaning.specs.Leaf.{is_variable, in_pattern}
-use Rattle.query_meaning.specs.Variables.{Variables, pattern_variables}
+use Rattle.query_eval_meaning.specs.Leaf.{is_variable, in_pattern}
+use Rattle.query_eval_meaning.specs.Variables.{Variables, pattern_variables}
 use Rattle.sparql_variables.specs.Bits.{members}
 use Rattle.sparql_certain.specs.Certain.{Has}
 

@@ -7,8 +7,8 @@ pub trait LeafVars {
     ghost use Rattle.std.specs.Prelude.{List};
     ghost use Rattle.std.specs.List.{AllByRecursion};
     ghost use Rattle.rdf_meaning.specs.Terms.{RdfTriple};
-    ghost use Rattle.query_meaning.specs.Mapping.{Mapping};
-    ghost use Rattle.query_meaning.specs.Variables.{Variables, Binds};
+    ghost use Rattle.query_eval_meaning.specs.Mapping.{Mapping};
+    ghost use Rattle.query_eval_meaning.specs.Variables.{Variables, Binds};
     ghost use Rattle.sparql_certain.specs.Certain.{Has};
 
     /// The solutions of the leaf over a set of triples.

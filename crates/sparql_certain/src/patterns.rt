@@ -1,7 +1,7 @@
 //! Every solution of patterns binds all their variables.
 
-ghost use Rattle.query_meaning.specs.Leaf.{is_variable, in_pattern};
-ghost use Rattle.query_meaning.specs.Variables.{pattern_variables};
+ghost use Rattle.query_eval_meaning.specs.Leaf.{is_variable, in_pattern};
+ghost use Rattle.query_eval_meaning.specs.Variables.{pattern_variables};
 ghost use Rattle.sparql_certain.specs.Certain.{Has};
 ghost use Rattle.sparql_certain.specs.Patterns.{Adds};
 
@@ -42,8 +42,8 @@ fn variables(patterns: &[Pattern]) -> VarSet
 }
 
 impl LeafVars for Items<Pattern> {
-    ghost use Rattle.query_meaning.specs.Leaf.{leaf};
-    ghost use Rattle.query_meaning.specs.Variables.{pattern_variables};
+    ghost use Rattle.query_eval_meaning.specs.Leaf.{leaf};
+    ghost use Rattle.query_eval_meaning.specs.Variables.{pattern_variables};
     ghost use Rattle.query_algebra_laws.specs.TreeSolutions.{leaf-binds};
 
     ghost solutions = { leaf };

@@ -3,8 +3,8 @@
 ghost use Rattle.std.specs.Prelude.{List};
 ghost use Rattle.std.specs.List.{AllByRecursion};
 ghost use Rattle.rdf_meaning.specs.Terms.{RdfTriple};
-ghost use Rattle.query_meaning.specs.Eval.{eval};
-ghost use Rattle.query_meaning.specs.Variables.{Binds, certain_of};
+ghost use Rattle.query_eval_meaning.specs.Eval.{eval};
+ghost use Rattle.query_eval_meaning.specs.Variables.{Binds, certain_of};
 ghost use Rattle.sparql_certain.specs.Certain.{Has};
 
 use crate::leaf_vars::LeafVars;

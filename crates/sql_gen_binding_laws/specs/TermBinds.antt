@@ -3,7 +3,7 @@ use Rattle.std.proofs.Common.{◌≡◌, ℕ, ◌⊎◌, true, false, List, [], 
 use Rattle.std.proofs.lemmas.Bool.{cases_Bool, eq-eqb, eqb-true, or_cases, or_from, or_left, or_right, false_from_ne_true, both_ways}
 use Rattle.std.proofs.lemmas.Slice.Eq.{bytes_eq-Decides}
 use Rattle.std.specs.List.{list_any, filter}
-use Rattle.query_meaning.specs.Eval.{join}
+use Rattle.query_eval_meaning.specs.Eval.{join}
 use Rattle.sql_meaning.specs.declared.expression.SqlExpr.{SqlExpr}
 use Rattle.sql_gen_step_laws.specs.Carried.{Name, column}
 use Rattle.sql_gen_step_laws.specs.StepSelects.{left_alias, right_alias, has, one_item, variable_item, both, own_sql}

@@ -3,7 +3,7 @@ use Rattle.std.specs.Prelude.{◌≡◌, ℕ, Bool, true, false, List, map, Opti
 use Rattle.std.specs.List.{list_any}
 use Rattle.std.specs.Str.{bytes_eq}
 use Rattle.rdf_meaning.specs.Terms.{RdfTerm}
-use Rattle.query_meaning.specs.Mapping.{Mapping}
+use Rattle.query_eval_meaning.specs.Mapping.{Mapping}
 use Rattle.sql_meaning.specs.declared.script.Source.{Source}
 use Rattle.sql_meaning.specs.declared.script.JoinTo.{JoinTo}
 use Rattle.sql_meaning.specs.declared.script.Core.{Core}

@@ -7,7 +7,7 @@ use Rattle.std.proofs.lemmas.List.Folds.{list_any-append}
 use Rattle.std.specs.List.{list_any, flat_map}
 use Rattle.std.specs.Str.{bytes_eq}
 use Rattle.rdf_meaning.specs.Terms.{RdfTerm}
-use Rattle.query_meaning.specs.Mapping.{Mapping}
+use Rattle.query_eval_meaning.specs.Mapping.{Mapping}
 use Rattle.table_meaning.specs.declared.cell.Cell.{Cell}
 use Rattle.sql_meaning.specs.declared.script.Source.{Source}
 use Rattle.sql_meaning.specs.declared.script.JoinTo.{JoinTo}

@@ -2,7 +2,7 @@
 
 ghost use Rattle.std.specs.Prelude.{◌≡◌, ℕ, Bool, false, List, ◌++◌};
 ghost use Rattle.rdf_meaning.specs.Terms.{RdfTerm};
-ghost use Rattle.query_meaning.specs.Mapping.{Mapping};
+ghost use Rattle.query_eval_meaning.specs.Mapping.{Mapping};
 ghost use Rattle.sql_meaning.specs.declared.script.Body.{Body};
 ghost use Rattle.sql_meaning.specs.declared.script.Step.{Step};
 ghost use Rattle.sql_rows_meaning.specs.Tables.{Relations};

@@ -13,9 +13,9 @@ use Rattle.rdf_meaning.specs.declared.kind.TermKind.{TermKind}
 use Rattle.rdf_meaning.specs.declared.kind.TermKind.TheVariants.{Iri, Blank, Tagged, Typed}
 use Rattle.rdf_meaning.specs.Terms.{RdfTerm, is_term, same_kind, same_term}
 use Rattle.rdf_meaning.specs.TermLaws.{same_kind-is, same_kind-self}
-use Rattle.rdf_meaning.specs.Values.{class_of, class_of_kind}
-use Rattle.rdf_meaning.specs.OrderLaws.{kind_of_class}
-use Rattle.query_meaning.specs.Answer.{Row, same_place, distinct_rows}
+use Rattle.rdf_value_meaning.specs.Values.{class_of, class_of_kind}
+use Rattle.rdf_value_meaning.specs.OrderLaws.{kind_of_class}
+use Rattle.query_eval_meaning.specs.Answer.{Row, same_place, distinct_rows}
 use Rattle.table_meaning.specs.declared.cell.Cell.{Cell}
 use Rattle.table_meaning.specs.declared.cell.Cell.TheVariants.{Null, Int, Text}
 use Rattle.sql_rows_meaning.specs.Cells.{same_cell}

@@ -13,11 +13,11 @@ use Rattle.bags.specs.Sort.{sort, by_items, same_items}
 use Rattle.bags.specs.SortLaws.{sort-same, sort-test, map-sort, each-sort}
 use Rattle.bags.specs.ItemsLaws.{items_total, items_ties}
 use Rattle.rdf_meaning.specs.Terms.{RdfTerm, is_term}
-use Rattle.rdf_meaning.specs.Values.{class_of}
+use Rattle.rdf_value_meaning.specs.Values.{class_of}
 use Rattle.query_meaning.specs.declared.modifiers.Key.{Key}
 use Rattle.query_meaning.specs.declared.modifiers.Modifiers.{Modifiers}
-use Rattle.query_meaning.specs.Mapping.{Mapping}
-use Rattle.query_meaning.specs.Answer.{Row, same_place, row_of, row_order, past, distinct_rows, up_to, sorted_rows, ordered_answer}
+use Rattle.query_eval_meaning.specs.Mapping.{Mapping}
+use Rattle.query_eval_meaning.specs.Answer.{Row, same_place, row_of, row_order, past, distinct_rows, up_to, sorted_rows, ordered_answer}
 use Rattle.table_meaning.specs.declared.cell.Cell.{Cell}
 use Rattle.table_meaning.specs.declared.cell.Cell.TheVariants.{Null, Int, Text}
 use Rattle.sql_meaning.specs.declared.script.SqlKey.{SqlKey}

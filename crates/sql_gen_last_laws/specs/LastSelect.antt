@@ -7,7 +7,7 @@ use Rattle.rdf_meaning.specs.declared.kind.TermKind.TheVariants.{Iri, Blank, Tag
 use Rattle.rdf_meaning.specs.Terms.{RdfTerm, is_term}
 use Rattle.query_meaning.specs.declared.modifiers.Key.{Key}
 use Rattle.query_meaning.specs.declared.modifiers.Modifiers.{Modifiers}
-use Rattle.query_meaning.specs.Answer.{Row, all_keys}
+use Rattle.query_eval_meaning.specs.Answer.{Row, all_keys}
 use Rattle.table_meaning.specs.declared.cell.Cell.{Cell}
 use Rattle.table_meaning.specs.declared.cell.Cell.TheVariants.{Null, Int, Text}
 use Rattle.sql_meaning.specs.declared.script.Item.{Item}

@@ -3,8 +3,8 @@
 ghost use Rattle.std.specs.Prelude.{◌≡◌, ℕ, Bool, true, List, Some};
 ghost use Rattle.rdf_meaning.specs.Terms.{RdfTerm, is_term};
 ghost use Rattle.query_meaning.specs.declared.modifiers.Modifiers.{Modifiers};
-ghost use Rattle.query_meaning.specs.Mapping.{Mapping};
-ghost use Rattle.query_meaning.specs.Answer.{ordered_answer};
+ghost use Rattle.query_eval_meaning.specs.Mapping.{Mapping};
+ghost use Rattle.query_eval_meaning.specs.Answer.{ordered_answer};
 ghost use Rattle.sql_rows_meaning.specs.Tables.{Relations};
 ghost use Rattle.sql_rows_meaning.specs.Selects.{select_rows};
 ghost use Rattle.sql_gen_step_laws.specs.Carried.{Name, Ids, Carries};

@@ -1,7 +1,7 @@
 -- The two steps of an optional join with a condition.
 use Rattle.std.specs.Prelude.{◌≡◌, ℕ, ◌+◌, ◌/◌, ◌%◌, Bool, true, false, if◌then◌else◌, List, [], ◌∷◌, ◌++◌, map, Some, None}
 use Rattle.std.specs.List.{AllByRecursion}
-use Rattle.query_meaning.specs.Mapping.{either}
+use Rattle.query_eval_meaning.specs.Mapping.{either}
 use Rattle.rdf_meaning.specs.Terms.{RdfTerm}
 use Rattle.bags.specs.Bag.{SameBag}
 use Rattle.table_meaning.specs.declared.cell.Cell.{Cell}
@@ -13,7 +13,7 @@ use Rattle.sql_rows_meaning.specs.Tables.{Relation}
 use Rattle.sql_gen_step_laws.specs.Carried.{Name, column, one, Ids, id_cell, carry, Over}
 use Rattle.sql_gen_step_laws.specs.StepSelects.{left_alias, right_alias, cell_of, every, has, shared_sql, shared, merged_sql, one_item, variable_item, both, own_sql, project_core}
 use Rattle.sql_gen_term_laws.specs.TermTable.{term_joins}
-use Rattle.query_meaning.specs.Matches.{Match}
+use Rattle.query_eval_meaning.specs.Matches.{Match}
 use Rattle.sql_meaning.specs.declared.expression.SqlExpr.TheVariants as sql
 use Rattle.table_meaning.specs.declared.kind.Kind.TheVariants as kind
 

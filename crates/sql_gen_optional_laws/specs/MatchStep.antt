@@ -3,9 +3,9 @@ use Rattle.std.proofs.Common.{◌≡◌, ℕ, ◌+◌, ◌⊎◌, Bool, true, fa
 use Rattle.std.proofs.lemmas.Bool.{cases_Bool}
 use Rattle.std.proofs.lemmas.List.{map-append}
 use Rattle.std.specs.List.{filter, flat_map, list_all, AllByRecursion}
-use Rattle.query_meaning.specs.Expressions.{Truth as Truth3, is_true as holds}
-use Rattle.query_meaning.specs.Mapping.{Mapping, agree, compatible, merge}
-use Rattle.query_meaning.specs.Eval.{found}
+use Rattle.query_eval_meaning.specs.Expressions.{Truth as Truth3, is_true as holds}
+use Rattle.query_eval_meaning.specs.Mapping.{Mapping, agree, compatible, merge}
+use Rattle.query_eval_meaning.specs.Eval.{found}
 use Rattle.rdf_meaning.specs.Terms.{RdfTerm}
 use Rattle.bags.specs.Bag.{total, SameBag}
 use Rattle.bags.specs.BagLaws.{total-same, total-map, total-flat_map, total-filter, total-each, each-map, each-flat_map, each-weaker, each-filter}
@@ -26,7 +26,7 @@ use Rattle.sql_gen_term_laws.specs.TermTable.{HasTerms, term_joins, with_terms}
 use Rattle.sql_gen_term_laws.specs.TermChain.{Keeps, keeps-terms, Sees, terms-chain, shows_terms}
 use Rattle.sql_gen_term_laws.specs.Filters.{Means}
 use Rattle.sql_gen_term_laws.specs.FilterStep.{holds_is}
-use Rattle.query_meaning.specs.Matches.{Match, matches_of}
+use Rattle.query_eval_meaning.specs.Matches.{Match, matches_of}
 use Rattle.sql_gen_optional_laws.specs.MatchRows.{kept, seen_sql, kept_item, matches_core, match_cells, OverBoth, Matches}
 use Rattle.sql_meaning.specs.declared.expression.SqlExpr.TheVariants as sql
 use Rattle.table_meaning.specs.declared.kind.Kind.TheVariants as kind

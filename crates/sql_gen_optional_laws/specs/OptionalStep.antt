@@ -6,8 +6,8 @@ use Rattle.std.specs.List.{filter, flat_map, list_all, list_any, AllByRecursion}
 use Rattle.sql_gen_step_laws.specs.StepTests.{same_number, same_bools}
 use Rattle.std.specs.Ordering.{int_eq}
 use Rattle.sql_gen_step_laws.specs.PlainSelects.{plain_rows}
-use Rattle.query_meaning.specs.Mapping.{Mapping, width, compatible, merge}
-use Rattle.query_meaning.specs.Eval.{left_join, or_alone, found}
+use Rattle.query_eval_meaning.specs.Mapping.{Mapping, width, compatible, merge}
+use Rattle.query_eval_meaning.specs.Eval.{left_join, or_alone, found}
 use Rattle.rdf_meaning.specs.Terms.{RdfTerm}
 use Rattle.bags.specs.Bag.{total}
 use Rattle.bags.specs.BagLaws.{total-same, total-map, total-flat_map, total-filter, total-each, each-append, each-map, each-flat_map, each-weaker, each-filter, total-append, total-zero}
@@ -29,9 +29,9 @@ use Rattle.sql_gen_step_laws.specs.StepTests.{pair_env, every_true}
 use Rattle.sql_gen_step_laws.specs.JoinStep.{total-carried, list_all-map, item_columns, in-both, merge-over, Both, each-both}
 use Rattle.sql_gen_step_laws.specs.UnionStep.{wider}
 use Rattle.sql_gen_step_laws.specs.LeftStep.{total-or_nulls}
-use Rattle.query_meaning.specs.Matches.{Match, matches_of, unmatched, same_below}
-use Rattle.query_meaning.specs.Variables.{IsNarrow}
-use Rattle.query_meaning.specs.Answer.{same_place}
+use Rattle.query_eval_meaning.specs.Matches.{Match, matches_of, unmatched, same_below}
+use Rattle.query_eval_meaning.specs.Variables.{IsNarrow}
+use Rattle.query_eval_meaning.specs.Answer.{same_place}
 use Rattle.query_algebra_laws.specs.Split.{left_join_split}
 use Rattle.sql_gen_optional_laws.specs.MatchRows.{kept, kept_sql, unmatched_core, optional_body, match_columns, match_cells, OverBoth, Matches}
 use Rattle.sql_meaning.specs.declared.expression.SqlExpr.TheVariants as sql

@@ -2,9 +2,9 @@
 use Rattle.std.proofs.Common.{◌≡◌, ℕ, Bool, false, if◌then◌else◌, List, sym, refl, ap, subst, bytes_eq}
 use Rattle.std.proofs.lemmas.Slice.Eq.{bytes_eq-Decides}
 use Rattle.std.specs.List.{AllByRecursion}
-use Rattle.query_meaning.specs.Expressions.{Truth as Truth3, is_true as holds}
-use Rattle.query_meaning.specs.Mapping.{Mapping}
-use Rattle.query_meaning.specs.Eval.{left_join}
+use Rattle.query_eval_meaning.specs.Expressions.{Truth as Truth3, is_true as holds}
+use Rattle.query_eval_meaning.specs.Mapping.{Mapping}
+use Rattle.query_eval_meaning.specs.Eval.{left_join}
 use Rattle.rdf_meaning.specs.Terms.{RdfTerm}
 use Rattle.sql_meaning.specs.declared.expression.SqlExpr.{SqlExpr}
 use Rattle.sql_rows_meaning.specs.Tables.{Relation, Relations, with_relation}
@@ -13,7 +13,7 @@ use Rattle.sql_gen_step_laws.specs.Carried.{Name, Ids, Numbers, Carries, Binds, 
 use Rattle.sql_gen_step_laws.specs.StepSelects.{both}
 use Rattle.sql_gen_term_laws.specs.TermTable.{HasTerms}
 use Rattle.sql_gen_term_laws.specs.Filters.{Means}
-use Rattle.query_meaning.specs.Matches.{matches_of}
+use Rattle.query_eval_meaning.specs.Matches.{matches_of}
 use Rattle.sql_gen_optional_laws.specs.MatchRows.{matches_core, optional_body, Matches}
 use Rattle.sql_gen_optional_laws.specs.MatchStep.{match_step}
 use Rattle.sql_gen_optional_laws.specs.OptionalStep.{optional_step}

@@ -1,7 +1,7 @@
 -- Rows that carry mappings.
 use Rattle.std.specs.Prelude.{◌≡◌, ℕ, ◌+◌, ◌/◌, ◌%◌, ◌<◌, Bool, true, false, ◌==◌, List, [], ◌∷◌, map, Option, Some, None, pos, is_some}
 use Rattle.std.specs.List.{list_any, AllByRecursion}
-use Rattle.query_meaning.specs.Mapping.{Mapping, width}
+use Rattle.query_eval_meaning.specs.Mapping.{Mapping, width}
 use Rattle.rdf_meaning.specs.Terms.{RdfTerm, same_term}
 use Rattle.bags.specs.Bag.{SameBag}
 use Rattle.table_meaning.specs.declared.cell.Cell.{Cell}

@@ -3,8 +3,8 @@ use Rattle.std.proofs.Common.{◌≡◌, ℕ, ◌<◌, ◌⊎◌, Bool, true, fa
 use Rattle.std.proofs.lemmas.Bool.{eqb-true, or_parts, cases_Bool}
 use Rattle.std.proofs.lemmas.List.Folds.{list_any-append}
 use Rattle.std.specs.List.{list_all, filter, flat_map, AllByRecursion}
-use Rattle.query_meaning.specs.Mapping.{Mapping, agree, width, compatible, either, merge}
-use Rattle.query_meaning.specs.Eval.{join}
+use Rattle.query_eval_meaning.specs.Mapping.{Mapping, agree, width, compatible, either, merge}
+use Rattle.query_eval_meaning.specs.Eval.{join}
 use Rattle.rdf_meaning.specs.Terms.{RdfTerm}
 use Rattle.bags.specs.Bag.{total}
 use Rattle.bags.specs.BagLaws.{total-same, total-map, total-flat_map, total-filter, total-each, each-append, each-map, each-flat_map, each-weaker, each-filter}

@@ -3,8 +3,8 @@ use Rattle.std.proofs.Common.{◌≡◌, ℕ, ◌+◌, ◌<◌, ◌⊎◌, Bool,
 use Rattle.std.proofs.lemmas.Bool.{cases_Bool}
 use Rattle.std.specs.List.{filter, flat_map, AllByRecursion}
 use Rattle.std.proofs.lemmas.Bool.{ne_eqb}
-use Rattle.query_meaning.specs.Mapping.{Mapping, agree, width, compatible, merge}
-use Rattle.query_meaning.specs.Eval.{left_join, or_alone}
+use Rattle.query_eval_meaning.specs.Mapping.{Mapping, agree, width, compatible, merge}
+use Rattle.query_eval_meaning.specs.Eval.{left_join, or_alone}
 use Rattle.rdf_meaning.specs.Terms.{RdfTerm}
 use Rattle.bags.specs.Bag.{total}
 use Rattle.bags.specs.BagLaws.{total-same, total-map, total-flat_map, total-filter, total-each, each-append, each-map, each-flat_map, each-weaker, each-filter}

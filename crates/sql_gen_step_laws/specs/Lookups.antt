@@ -1,7 +1,7 @@
 -- What a name means over a row that carries a mapping.
 use Rattle.std.proofs.Common.{◌≡◌, ℕ, ◌+◌, ◌/◌, ◌%◌, ◌⊎◌, Bool, true, false, if◌then◌else◌, ◌||◌, List, [], ◌∷◌, map, sym, refl, ap, ◌∙◌, arith, eqb, inl, inr, ◌==◌, bytes_eq}
 use Rattle.std.proofs.lemmas.Bool.{eqb-true, eq-eqb, ne_eqb, and_parts, or_parts, cases_Bool, cases_eq, false_from_ne_true}
-use Rattle.query_meaning.specs.Mapping.{Mapping}
+use Rattle.query_eval_meaning.specs.Mapping.{Mapping}
 use Rattle.rdf_meaning.specs.Terms.{RdfTerm}
 use Rattle.table_meaning.specs.declared.cell.Cell.{Cell}
 use Rattle.table_meaning.specs.declared.cell.Cell.TheVariants.{Null}

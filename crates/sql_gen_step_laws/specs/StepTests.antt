@@ -5,7 +5,7 @@ use Rattle.std.proofs.lemmas.Bool.Decides.{Decides-int_eq, Decides-eqb}
 use Rattle.std.specs.Bool.{one_answer}
 use Rattle.std.specs.Ordering.{int_eq}
 use Rattle.std.specs.List.{list_all, AllByRecursion}
-use Rattle.query_meaning.specs.Mapping.{Mapping, agree, agree_below, width, compatible, either, merge}
+use Rattle.query_eval_meaning.specs.Mapping.{Mapping, agree, agree_below, width, compatible, either, merge}
 use Rattle.rdf_meaning.specs.Terms.{RdfTerm}
 use Rattle.query_algebra_laws.specs.MappingLaws.{agreed}
 use Rattle.table_meaning.specs.declared.cell.Cell.{Cell}

@@ -3,7 +3,7 @@ use Rattle.std.proofs.Common.{◌≡◌, ℕ, ◌+◌, ◌<◌, ◌⊎◌, Bool,
 use Rattle.std.proofs.lemmas.Bool.{cases_Bool}
 use Rattle.std.proofs.lemmas.List.{append-nil}
 use Rattle.std.specs.List.{filter}
-use Rattle.query_meaning.specs.Mapping.{Mapping, width}
+use Rattle.query_eval_meaning.specs.Mapping.{Mapping, width}
 use Rattle.rdf_meaning.specs.Terms.{RdfTerm}
 use Rattle.bags.specs.Bag.{total}
 use Rattle.bags.specs.BagLaws.{total-map, total-each, each-append, each-weaker, each-filter, total-append}

@@ -3,8 +3,8 @@
 ghost use Rattle.std.specs.Prelude.{ℕ, List, ◌++◌, Bool, true, false};
 ghost use Rattle.std.specs.List.{AllByRecursion};
 ghost use Rattle.rdf_meaning.specs.Terms.{RdfTerm};
-ghost use Rattle.query_meaning.specs.Mapping.{Mapping};
-ghost use Rattle.query_meaning.specs.Eval.{join, left_join};
+ghost use Rattle.query_eval_meaning.specs.Mapping.{Mapping};
+ghost use Rattle.query_eval_meaning.specs.Eval.{join, left_join};
 ghost use Rattle.sql_rows_meaning.specs.Tables.{Relations};
 ghost use Rattle.sql_rows_meaning.specs.Rows.{body_relation};
 ghost use Rattle.sql_gen_step_laws.specs.Carried.{Name, Ids, Numbers, Carries, Binds, select_table};

@@ -1,8 +1,8 @@
 -- A filter over a step carries what passes it.
 use Rattle.std.proofs.Common.{◌≡◌, ℕ, Bool, cond, List, [], ◌∷◌, map, Some, None, sym, refl, ap, ap₂, ◌∙◌, pos}
 use Rattle.std.specs.List.{filter}
-use Rattle.query_meaning.specs.Expressions.{Truth as Truth3, is_true as holds}
-use Rattle.query_meaning.specs.Mapping.{Mapping}
+use Rattle.query_eval_meaning.specs.Expressions.{Truth as Truth3, is_true as holds}
+use Rattle.query_eval_meaning.specs.Mapping.{Mapping}
 use Rattle.rdf_meaning.specs.Terms.{RdfTerm}
 use Rattle.bags.specs.Bag.{total}
 use Rattle.bags.specs.BagLaws.{total-map, total-filter, total-each, each-filter}

@@ -1,7 +1,7 @@
 -- The SELECT of a filter.
 use Rattle.std.specs.Prelude.{◌≡◌, ℕ, true, false, List, [], ◌∷◌, map, Some, None}
-use Rattle.query_meaning.specs.Expressions.{Truth as Truth3}
-use Rattle.query_meaning.specs.Mapping.{Mapping}
+use Rattle.query_eval_meaning.specs.Expressions.{Truth as Truth3}
+use Rattle.query_eval_meaning.specs.Mapping.{Mapping}
 use Rattle.table_meaning.specs.declared.cell.Cell.{Cell}
 use Rattle.table_meaning.specs.declared.cell.Cell.TheVariants.{Null, Truth}
 use Rattle.sql_meaning.specs.declared.script.Core.{Core}

@@ -2,8 +2,8 @@
 use Rattle.std.proofs.Common.{◌≡◌, ℕ, ◌+◌, ◌/◌, ◌%◌, ◌⊎◌, Bool, true, false, List, [], ◌∷◌, map, Option, Some, None, sym, refl, ap, ◌∙◌, arith, eqb, inl, inr, ◌==◌, bytes_eq}
 use Rattle.std.proofs.lemmas.Bool.{eq-eqb, eqb-true, ne_eqb, cases_Bool, cases_eq, and_parts, or_cases, false_from_ne_true}
 use Rattle.std.specs.List.{flat_map, AllByRecursion}
-use Rattle.query_meaning.specs.Mapping.{Mapping}
-use Rattle.query_meaning.specs.Eval.{join}
+use Rattle.query_eval_meaning.specs.Mapping.{Mapping}
+use Rattle.query_eval_meaning.specs.Eval.{join}
 use Rattle.rdf_meaning.specs.Terms.{RdfTerm}
 use Rattle.bags.specs.Bag.{total, SameBag}
 use Rattle.bags.specs.BagLaws.{total-map, total-flat_map, total-each, each-weaker}

@@ -2,7 +2,7 @@
 use Rattle.std.specs.Prelude.{◌≡◌, ℕ, ℤ, ◌+◌, ◌/◌, ◌%◌, Bool, true, cond, List, [], ◌∷◌, map, Option, Some, None, pos, codes}
 use Rattle.bags.specs.Bag.{total}
 use Rattle.rdf_meaning.specs.Terms.{RdfTerm}
-use Rattle.rdf_meaning.specs.Values.{class_of, value_of}
+use Rattle.rdf_value_meaning.specs.Values.{class_of, value_of}
 use Rattle.table_meaning.specs.declared.cell.Cell.{Cell}
 use Rattle.table_meaning.specs.declared.cell.Cell.TheVariants.{Null, Int, Text}
 use Rattle.sql_meaning.specs.declared.script.JoinTo.{JoinTo}
@@ -11,7 +11,7 @@ use Rattle.sql_meaning.specs.declared.expression.SqlExpr.TheVariants as sql
 use Rattle.sql_rows_meaning.specs.Cells.{equal_cells}
 use Rattle.sql_rows_meaning.specs.Values.{is_true}
 use Rattle.sql_rows_meaning.specs.Tables.{Relation, cell_under}
-use Rattle.query_meaning.specs.Mapping.{Mapping}
+use Rattle.query_eval_meaning.specs.Mapping.{Mapping}
 use Rattle.sql_rows_meaning.specs.Values.{Sight}
 use Rattle.sql_rows_meaning.specs.Sources.{with_row}
 use Rattle.sql_gen_step_laws.specs.Carried.{Name, Ids}

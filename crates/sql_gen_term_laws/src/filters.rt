@@ -3,8 +3,8 @@
 ghost use Rattle.std.specs.Prelude.{ℕ, List, Bool};
 ghost use Rattle.std.specs.List.{filter};
 ghost use Rattle.rdf_meaning.specs.Terms.{RdfTerm};
-ghost use Rattle.query_meaning.specs.Mapping.{Mapping};
-ghost use Rattle.query_meaning.specs.Expressions.{Truth, is_true};
+ghost use Rattle.query_eval_meaning.specs.Mapping.{Mapping};
+ghost use Rattle.query_eval_meaning.specs.Expressions.{Truth, is_true};
 ghost use Rattle.sql_meaning.specs.declared.expression.SqlExpr.{SqlExpr};
 ghost use Rattle.sql_rows_meaning.specs.Tables.{Relations};
 ghost use Rattle.sql_gen_step_laws.specs.Carried.{Name, Ids, Carries, select_table};

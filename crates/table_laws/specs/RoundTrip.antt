@@ -3,7 +3,7 @@ use Rattle.std.specs.Prelude.{ℕ, List, ◌++◌, length, IsTrue}
 use Rattle.std.proofs.Common.{refl}
 use Rattle.std.proofs.Math.Seq.{take-append_seam}
 use Rattle.table_meaning.specs.CellText.{ended}
-use Rattle.table_meaning.specs.TableText.{table_text, sql_line, is_spelled_set, TablesRead}
+use Rattle.table_text_meaning.specs.TableText.{table_text, sql_line, is_spelled_set, TablesRead}
 use Rattle.table_meaning.specs.Tables.{NamedTable}
 
 -- the text of tables with the line that ends it

@@ -34,3 +34,10 @@ row_line cells = tabbed (map cell_text cells)
 -- the names of the columns, then the rows, each on a line of its own
 abbrev pub cells_text : RowTable → List ℕ
 cells_text table = ended (tabbed (column_names table.schema)) ++ flat_map (λ cells. ended (row_line cells)) table.rows
+
+-- a cell that a program can hold: its number has 128 bits, its text is UTF-8
+abbrev pub is_held_cell : Cell → Bool
+is_held_cell Null = true
+is_held_cell (Int number) = is_wide_int number
+is_held_cell (Text text) = is_utf8 text
+is_held_cell (Truth truth) = true

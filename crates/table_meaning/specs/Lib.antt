@@ -3,6 +3,5 @@ pub mod Tables
 pub mod Names
 pub mod Ints
 pub mod CellText
-pub mod TableText
 pub mod TableLaws
 pub mod IntLaws

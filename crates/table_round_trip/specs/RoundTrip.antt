@@ -2,7 +2,7 @@
 use Rattle.std.specs.Prelude.{ℕ, List, ◌++◌, ◌≡◌, ◌⊎◌, length, IsTrue, Result, Ok, Err, IfOk}
 use Rattle.std.proofs.Common.{ap, inl, inr, refl}
 use Rattle.table_meaning.specs.Tables.{NamedTable}
-use Rattle.table_meaning.specs.TableText.{is_spelled_set, TablesRead, IsFirstBadLine}
+use Rattle.table_text_meaning.specs.TableText.{is_spelled_set, TablesRead, IsFirstBadLine}
 use Rattle.table_laws.specs.RoundTrip.{whole_text, written_tables_are_read}
 use Rattle.table_text.specs.Laws.{OneReading, NeverBoth}
 use Rattle.table_text.specs.declared.refusal.TableRefusal.{TableRefusal}

@@ -17,7 +17,8 @@ use Rattle.table_meaning.specs.CellText.{cell_text}
 use Rattle.table_meaning.specs.Ints.{int_of, int_text, is_int_form, is_digits, is_wide_int}
 use Rattle.table_meaning.specs.IntLaws.{int_of-spelled, int_of-spells, int_of-form}
 use Rattle.table_meaning.specs.Names.{is_name, is_name_byte}
-use Rattle.table_meaning.specs.TableText.{is_held_cell, is_truth}
+use Rattle.table_meaning.specs.CellText.{is_held_cell}
+use Rattle.table_text_meaning.specs.TableText.{is_truth}
 use Rattle.table_meaning.specs.Tables.{has_kind}
 use Rattle.table_text.specs.Reading.{cell_of, value_of, text_of, is_other}
 use Rattle.table_text.proofs.NameLaws.{name_bytes}

@@ -16,7 +16,8 @@ use Rattle.table_meaning.specs.Ints.{int_text, is_int_form, is_digits}
 use Rattle.table_meaning.specs.IntLaws.{int_of-form, int_of-spelled}
 use Rattle.table_meaning.specs.Names.{is_name}
 use Rattle.table_meaning.specs.Schemas.{is_schema}
-use Rattle.table_meaning.specs.TableText.{is_held_cell, is_plain_column, is_plain_table, is_held_table, column_text, head_line, table_lines, tables_lines, is_spelled_set}
+use Rattle.table_meaning.specs.CellText.{is_held_cell}
+use Rattle.table_text_meaning.specs.TableText.{is_plain_column, is_plain_table, is_held_table, column_text, head_line, table_lines, tables_lines, is_spelled_set}
 use Rattle.table_meaning.specs.Tables.{NamedTable, is_row, are_rows, has_table}
 use Rattle.table_text.specs.Reading.{◌>>=◌, before, with_head, with_row, head_of, cells_of, fields_of, begins_table, step}
 use Rattle.table_text.proofs.TextLaws.{bind_some}

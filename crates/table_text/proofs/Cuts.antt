@@ -10,7 +10,7 @@ use Rattle.std.proofs.lemmas.Grind.{common_steps}
 use Rattle.std.proofs.lemmas.List.{take-append-drop}
 use Rattle.std.proofs.lemmas.List.Sums.{prefix_len_stops, prefix_len-le-length}
 use Rattle.table_meaning.specs.CellText.{ended}
-use Rattle.table_meaning.specs.TableText.{lines_of}
+use Rattle.table_text_meaning.specs.TableText.{lines_of}
 use Rattle.table_text.specs.Reading.{is_other, fields_of, cells_of}
 
 pub front_passes : (p : ℕ → Bool) (xs : List ℕ) → list_all p (take (prefix_len p xs) xs) ≡ true

@@ -15,7 +15,7 @@ use Rattle.table_meaning.specs.declared.schema.Column.{Column}
 use Rattle.table_meaning.specs.CellText.{tabbed}
 use Rattle.table_meaning.specs.Names.{is_name}
 use Rattle.table_meaning.specs.Schemas.{is_schema}
-use Rattle.table_meaning.specs.TableText.{is_truth, is_plain_column, column_text, kind_mark}
+use Rattle.table_text_meaning.specs.TableText.{is_truth, is_plain_column, column_text, kind_mark}
 use Rattle.table_text.specs.Reading.{◌>>=◌, before, fields_of, is_other, column_as, column_of, columns_of, schema_of, head_in, head_of, name_of, or_else}
 use Rattle.table_text.proofs.TextLaws.{chosen, bind_some, before_some}
 use Rattle.table_text.proofs.CellLaws.{name_other, tab_stops}

@@ -9,7 +9,8 @@ use Rattle.std.proofs.lemmas.Option.{unwrap_or-slice_get}
 use Rattle.table_meaning.specs.declared.cell.Cell.{Cell}
 use Rattle.table_meaning.specs.declared.schema.Column.{Column}
 use Rattle.table_meaning.specs.declared.cell.Cell.TheVariants.{Null}
-use Rattle.table_meaning.specs.TableText.{is_plain_table, is_held_cell, is_held_table, is_spelled_set}
+use Rattle.table_meaning.specs.CellText.{is_held_cell}
+use Rattle.table_text_meaning.specs.TableText.{is_plain_table, is_held_table, is_spelled_set}
 use Rattle.table_meaning.specs.Schemas.{is_schema}
 use Rattle.table_meaning.specs.TableLaws.{is_row-length}
 use Rattle.table_meaning.specs.Tables.{NamedTable, no_table, table_at, row_at, is_row, is_table, is_table_set}

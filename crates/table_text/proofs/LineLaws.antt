@@ -16,7 +16,8 @@ use Rattle.table_meaning.specs.declared.schema.Column.{Column}
 use Rattle.table_meaning.specs.CellText.{cell_text, row_line, tabbed, after_tab, ended}
 use Rattle.table_meaning.specs.Ints.{int_of}
 use Rattle.table_meaning.specs.Names.{is_name}
-use Rattle.table_meaning.specs.TableText.{is_held_cell, is_plain_column, is_plain_table, is_held_table, kind_mark, column_text, head_line, table_lines, tables_lines, table_text, sql_line, lines_of, is_spelled_set, BeginTables, TablesRead}
+use Rattle.table_meaning.specs.CellText.{is_held_cell}
+use Rattle.table_text_meaning.specs.TableText.{is_plain_column, is_plain_table, is_held_table, kind_mark, column_text, head_line, table_lines, tables_lines, table_text, sql_line, lines_of, is_spelled_set, BeginTables, TablesRead}
 use Rattle.table_meaning.specs.Tables.{NamedTable}
 use Rattle.table_text.specs.Reading.{◌>>=◌, before, is_other, is_line, with_row, with_cells, cells_of, cell_of, text_of, fields_of, step}
 use Rattle.table_text.proofs.CellLaws.{feed_stops, cell_other, name_other}

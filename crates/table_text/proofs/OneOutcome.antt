@@ -9,7 +9,7 @@ use Rattle.std.proofs.lemmas.List.{take-append-drop, take-append-le, length-appe
 use Rattle.std.proofs.lemmas.Option.{same_Some}
 use Rattle.std.proofs.lemmas.Slice.Eq.{bytes_eq-Decides}
 use Rattle.table_meaning.specs.CellText.{ended}
-use Rattle.table_meaning.specs.TableText.{table_lines, tables_lines, table_text, first_line, sql_line, lines_of, onto_first, is_spelled_set, BeginTables, TablesRead, IsFirstBadLine}
+use Rattle.table_text_meaning.specs.TableText.{table_lines, tables_lines, table_text, first_line, sql_line, lines_of, onto_first, is_spelled_set, BeginTables, TablesRead, IsFirstBadLine}
 use Rattle.table_meaning.specs.Tables.{NamedTable}
 use Rattle.table_text.specs.Reading.{is_line, step}
 use Rattle.table_text.specs.Laws.{OneReading, NeverBoth, OneBadLine, ReadOrBad}

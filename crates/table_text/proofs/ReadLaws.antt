@@ -12,7 +12,7 @@ use Rattle.std.proofs.lemmas.List.Folds.{list_all-append}
 use Rattle.std.proofs.lemmas.Slice.Eq.{bytes_eq-Decides}
 use Rattle.table_meaning.specs.CellText.{ended}
 use Rattle.table_meaning.specs.Tables.{NamedTable, is_table_set}
-use Rattle.table_meaning.specs.TableText.{is_spelled_set, table_text, text_of_lines, tables_lines, sql_line, first_line, lines_of, TablesRead, IsFirstBadLine, BeginTables, EndTables}
+use Rattle.table_text_meaning.specs.TableText.{is_spelled_set, table_text, text_of_lines, tables_lines, sql_line, first_line, lines_of, TablesRead, IsFirstBadLine, BeginTables, EndTables}
 use Rattle.table_text.specs.Reading.{is_line, step}
 use Rattle.table_text.proofs.Cuts.{lines_of-ended}
 use Rattle.table_text.proofs.Sound.{step_goes}

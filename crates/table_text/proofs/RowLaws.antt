@@ -10,7 +10,8 @@ use Rattle.table_meaning.specs.declared.cell.Cell.{Cell}
 use Rattle.table_meaning.specs.declared.schema.Column.{Column}
 use Rattle.table_meaning.specs.CellText.{cell_text, row_line, tabbed}
 use Rattle.table_meaning.specs.Names.{is_name}
-use Rattle.table_meaning.specs.TableText.{is_held_cell, is_truth, is_plain_column, onto_first}
+use Rattle.table_meaning.specs.CellText.{is_held_cell}
+use Rattle.table_text_meaning.specs.TableText.{is_truth, is_plain_column, onto_first}
 use Rattle.table_meaning.specs.Tables.{is_row, has_kind}
 use Rattle.table_text.specs.Reading.{before, fields_of, cell_of, cells_of, is_other}
 use Rattle.table_text.proofs.Cuts.{fields_of-before, fields_of-alone}

@@ -12,7 +12,8 @@ use Rattle.table_meaning.specs.declared.cell.Cell.{Cell}
 use Rattle.table_meaning.specs.declared.schema.Column.{Column}
 use Rattle.table_meaning.specs.CellText.{row_line, tabbed}
 use Rattle.table_meaning.specs.Schemas.{is_schema, are_distinct}
-use Rattle.table_meaning.specs.TableText.{is_held_cell, is_plain_table, is_held_table, column_text, head_line, table_lines, tables_lines, first_line, is_spelled_set}
+use Rattle.table_meaning.specs.CellText.{is_held_cell}
+use Rattle.table_text_meaning.specs.TableText.{is_plain_table, is_held_table, column_text, head_line, table_lines, tables_lines, first_line, is_spelled_set}
 use Rattle.table_meaning.specs.TableLaws.{is_table_set-push}
 use Rattle.table_meaning.specs.Tables.{NamedTable, is_row, are_rows, is_table, is_table_set, table_name, has_table}
 use Rattle.table_text.specs.Reading.{with_head, with_cells, with_row, head_of, cells_of, fields_of, begins_table, step}

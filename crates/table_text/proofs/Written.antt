@@ -11,7 +11,7 @@ use Rattle.std.proofs.lemmas.Option.{unwrap_or-slice_get}
 use Rattle.table_meaning.specs.declared.cell.Cell.{Cell}
 use Rattle.table_meaning.specs.declared.cell.Cell.TheVariants.{Null}
 use Rattle.table_meaning.specs.CellText.{cell_text, ended, row_line, tabbed, after_tab}
-use Rattle.table_meaning.specs.TableText.{table_lines, table_text, text_of_lines, head_line, first_line}
+use Rattle.table_text_meaning.specs.TableText.{table_lines, table_text, text_of_lines, head_line, first_line}
 use Rattle.table_meaning.specs.TableLaws.{is_row-length, list_all-get}
 use Rattle.table_meaning.specs.Tables.{NamedTable, no_table, table_at, row_at, is_row, is_table, is_table_set}
 use Rattle.rel_cells.specs.Fronts.{KeepsFront, kept_append, kept_on}

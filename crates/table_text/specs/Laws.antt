@@ -1,7 +1,7 @@
 -- One text is read in one way, or has one first bad line.
 use Rattle.std.specs.Prelude.{◌≡◌, ◌⊎◌, ℕ, List}
 use Rattle.table_meaning.specs.Tables.{NamedTable}
-use Rattle.table_meaning.specs.TableText.{TablesRead, IsFirstBadLine}
+use Rattle.table_text_meaning.specs.TableText.{TablesRead, IsFirstBadLine}
 
 -- one list of tables at most is read, with one place of the SQL
 abbrev pub OneReading : Type 0

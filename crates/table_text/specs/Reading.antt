@@ -11,7 +11,7 @@ use Rattle.table_meaning.specs.declared.schema.Column.{Column}
 use Rattle.table_meaning.specs.Ints.{int_of}
 use Rattle.table_meaning.specs.Names.{is_name}
 use Rattle.table_meaning.specs.Schemas.{is_schema}
-use Rattle.table_meaning.specs.TableText.{onto_first}
+use Rattle.table_text_meaning.specs.TableText.{onto_first}
 use Rattle.table_meaning.specs.Tables.{NamedTable, has_table}
 
 infixl 10 ◌>>=◌

@@ -4,7 +4,8 @@ use Rattle.std.specs.List.{list_all}
 use Rattle.table_meaning.specs.declared.cell.Cell.{Cell}
 use Rattle.table_meaning.specs.declared.cell.Cell.TheVariants.{Null}
 use Rattle.table_meaning.specs.CellText.{cell_text, ended}
-use Rattle.table_meaning.specs.TableText.{head_line, is_held_cell}
+use Rattle.table_meaning.specs.CellText.{is_held_cell}
+use Rattle.table_text_meaning.specs.TableText.{head_line}
 use Rattle.table_meaning.specs.Tables.{NamedTable, table_at, row_at}
 
 -- a tab before each cell but the first

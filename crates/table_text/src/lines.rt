@@ -2,7 +2,7 @@
 
 ghost use Rattle.std.specs.Prelude.{◌≡◌, ◌++◌, ◌<◌, [], length, MatchOption, IfSome, IsTrue};
 ghost use Rattle.table_meaning.specs.CellText.{ended};
-ghost use Rattle.table_meaning.specs.TableText.{lines_of};
+ghost use Rattle.table_text_meaning.specs.TableText.{lines_of};
 ghost use Rattle.table_text.specs.Reading.{is_line};
 
 use crate::fields::len_before;

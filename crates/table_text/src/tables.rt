@@ -1,7 +1,7 @@
 //! Tables, read from their text.
 
 ghost use Rattle.std.specs.Prelude.{◌≡◌, ◌++◌, [], ℕ, map, IfOk, IsTrue, Err, MatchOption};
-ghost use Rattle.table_meaning.specs.TableText.{TablesRead, IsFirstBadLine, table_text};
+ghost use Rattle.table_text_meaning.specs.TableText.{TablesRead, IsFirstBadLine, table_text};
 ghost use Rattle.table_meaning.specs.Tables.{is_table_set, table_name};
 ghost use Rattle.table_text.specs.Reading.{head_of, with_head, with_row, step, Stepped};
 ghost use Rattle.std.specs.Bool.{OnTrue};

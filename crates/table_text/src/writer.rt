@@ -6,7 +6,7 @@ ghost use Rattle.std.specs.List.{flat_map, list_all};
 ghost use Rattle.rel_cells.specs.Fronts.{KeepsFront};
 ghost use Rattle.table_meaning.specs.CellText.{ended, after_tab};
 ghost use Rattle.table_meaning.specs.Tables.{table_at, row_at, is_table_set};
-ghost use Rattle.table_meaning.specs.TableText.{column_text, head_line, table_text, is_plain_table, is_held_table, is_spelled_set, kind_mark};
+ghost use Rattle.table_text_meaning.specs.TableText.{column_text, head_line, table_text, is_plain_table, is_held_table, is_spelled_set, kind_mark};
 ghost use Rattle.table_text.specs.Writing.{tab_before, row_front, rows_front, table_front, cells_held, rows_held};
 
 use rel_cells::{Column, Kind, TableSet, write_cell};

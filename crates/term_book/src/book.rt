@@ -7,7 +7,7 @@ ghost use Rattle.term_book.specs.Book.{HasId, IsNoted, IsFull, IsPlaceOf};
 
 use crate::refusal::BookRefusal;
 use indexmap::IndexSet;
-use rdf_terms::{Term, TermId};
+use rdf_meaning::{Term, TermId};
 use std::alloc::{AllocFailed, Global};
 use std::marker::Model;
 

@@ -1,5 +1,5 @@
 use super::*;
-use rdf_terms::{Term, TermKind, text_of};
+use rdf_meaning::{Term, TermKind, text_of};
 use std::alloc::{AllocError, Global};
 use std::test::Fail;
 use std::thread;

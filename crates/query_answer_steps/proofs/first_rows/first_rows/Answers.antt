@@ -1,6 +1,6 @@
 use Rattle.std.proofs.Common.{List, ap, ◌∙◌}
 use Rattle.indexmap.specs.IndexSet.{insert_key}
-use Rattle.query_meaning.specs.Answer.{Row}
+use Rattle.query_eval_meaning.specs.Answer.{Row}
 use Rattle.query_answer_steps.specs.SameRows.{same_row}
 use Rattle.query_answer_steps.proofs.Firsts.{firsts-insert}
 use Rattle.query_answer_steps.proofs.first_rows.first_rows.Goals as goal

@@ -1,5 +1,5 @@
 use Rattle.std.proofs.Common.{◌≡◌, take}
-use Rattle.query_meaning.specs.Answer.{all_keys}
+use Rattle.query_eval_meaning.specs.Answer.{all_keys}
 use Rattle.query_answer_steps.proofs.sorting.all_keys.Given as goal
 
 abbrev pub invariant-loop-variable : goal.invariant-loop-variable

@@ -1,5 +1,5 @@
 use Rattle.std.proofs.Common.{◌≡◌, map, drop}
-use Rattle.query_meaning.specs.Leaf.{bound}
+use Rattle.query_eval_meaning.specs.Leaf.{bound}
 use Rattle.query_pattern_answer.specs.Rows.{row_at, plain_order}
 use Rattle.query_pattern_answer.proofs.solutions.order_rows.Given as goal
 

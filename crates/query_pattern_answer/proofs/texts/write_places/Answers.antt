@@ -1,6 +1,6 @@
 use Rattle.std.proofs.Common.{arith}
-use Rattle.query_meaning.specs.Leaf.{bound}
-use Rattle.query_meaning.specs.AnswerText.{place_text}
+use Rattle.query_eval_meaning.specs.Leaf.{bound}
+use Rattle.query_eval_meaning.specs.AnswerText.{place_text}
 use Rattle.query_pattern_answer.proofs.Tabs.{joined_twice}
 use Rattle.query_pattern_answer.proofs.texts.write_places.Goals as goal
 

@@ -1,7 +1,7 @@
 use Rattle.std.proofs.Common.{◌≡◌, ◌++◌, ◌∷◌, take}
 use Rattle.std.specs.List.{flat_map}
-use Rattle.query_meaning.specs.Leaf.{bound}
-use Rattle.query_meaning.specs.AnswerText.{place_text}
+use Rattle.query_eval_meaning.specs.Leaf.{bound}
+use Rattle.query_eval_meaning.specs.AnswerText.{place_text}
 use Rattle.query_pattern_answer.proofs.texts.write_places.Given as goal
 
 abbrev pub invariant-loop-variable : goal.invariant-loop-variable

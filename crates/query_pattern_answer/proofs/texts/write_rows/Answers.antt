@@ -1,5 +1,5 @@
 use Rattle.std.proofs.Common.{arith, rules}
-use Rattle.query_meaning.specs.AnswerText.{row_text, header_text}
+use Rattle.query_eval_meaning.specs.AnswerText.{row_text, header_text}
 use Rattle.query_pattern_answer.specs.Rows.{row_at, names_at}
 use Rattle.query_pattern_answer.proofs.Tabs.{written}
 use Rattle.query_pattern_answer.proofs.texts.write_rows.Goals as goal

@@ -1,6 +1,6 @@
 use Rattle.std.proofs.Common.{◌≡◌, ◌++◌, take}
 use Rattle.std.specs.List.{flat_map}
-use Rattle.query_meaning.specs.AnswerText.{row_text}
+use Rattle.query_eval_meaning.specs.AnswerText.{row_text}
 use Rattle.query_pattern_answer.specs.Rows.{row_at}
 use Rattle.query_pattern_answer.proofs.texts.write_rows.Given as goal
 

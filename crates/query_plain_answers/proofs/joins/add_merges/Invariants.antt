@@ -1,6 +1,6 @@
 use Rattle.std.proofs.Common.{◌≡◌, ◌++◌, map, drop}
 use Rattle.std.specs.List.{filter}
-use Rattle.query_meaning.specs.Mapping.{merge, compatible}
+use Rattle.query_eval_meaning.specs.Mapping.{merge, compatible}
 use Rattle.query_plain_answers.specs.Places.{place_at}
 use Rattle.query_plain_answers.proofs.joins.add_merges.Given as goal
 

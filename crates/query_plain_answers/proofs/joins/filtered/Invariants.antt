@@ -1,6 +1,6 @@
 use Rattle.std.proofs.Common.{◌≡◌, map}
 use Rattle.std.specs.List.{filter}
-use Rattle.query_meaning.specs.Eval.{holds_over}
+use Rattle.query_eval_meaning.specs.Eval.{holds_over}
 use Rattle.query_plain_answers.specs.Places.{place_at}
 use Rattle.query_plain_answers.proofs.joins.filtered.Given as goal
 

@@ -1,5 +1,5 @@
 use Rattle.std.proofs.Common.{◌≡◌, ◌++◌, map, drop}
-use Rattle.query_meaning.specs.Eval.{join}
+use Rattle.query_eval_meaning.specs.Eval.{join}
 use Rattle.query_plain_answers.specs.Places.{place_at}
 use Rattle.query_plain_answers.proofs.joins.join.Given as goal
 

@@ -1,5 +1,5 @@
 use Rattle.std.proofs.Common.{◌≡◌, ◌++◌, map, drop}
-use Rattle.query_meaning.specs.Eval.{left_join, passes_over}
+use Rattle.query_eval_meaning.specs.Eval.{left_join, passes_over}
 use Rattle.query_plain_answers.specs.Places.{place_at}
 use Rattle.query_plain_answers.proofs.joins.left_join.Given as goal
 

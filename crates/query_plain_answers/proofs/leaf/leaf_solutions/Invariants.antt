@@ -1,6 +1,6 @@
 use Rattle.std.proofs.Common.{map, take}
 use Rattle.bags.specs.Bag.{SameBag}
-use Rattle.query_meaning.specs.Leaf.{leaf}
+use Rattle.query_eval_meaning.specs.Leaf.{leaf}
 use Rattle.query_plain_answers.specs.Places.{place_at}
 use Rattle.query_plain_answers.proofs.leaf.leaf_solutions.Given as goal
 

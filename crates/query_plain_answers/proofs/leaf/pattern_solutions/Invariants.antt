@@ -1,6 +1,6 @@
 use Rattle.std.proofs.Common.{◌≡◌, ◌++◌, map, drop}
 use Rattle.std.specs.List.{flat_map}
-use Rattle.query_meaning.specs.Leaf.{matches}
+use Rattle.query_eval_meaning.specs.Leaf.{matches}
 use Rattle.query_plain_answers.specs.Places.{place_at}
 use Rattle.query_plain_answers.proofs.leaf.pattern_solutions.Given as goal
 

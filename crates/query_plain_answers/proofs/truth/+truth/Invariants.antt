@@ -1,5 +1,5 @@
 use Rattle.std.proofs.Common.{◌≡◌, map, drop}
-use Rattle.query_meaning.specs.Expressions.{truth_over, and3, or3, all3, any3}
+use Rattle.query_eval_meaning.specs.Expressions.{truth_over, and3, or3, all3, any3}
 use Rattle.query_plain_answers.specs.Places.{place_at}
 use Rattle.query_plain_answers.proofs.truth.+truth.Given as goal
 

@@ -1,6 +1,6 @@
 use Rattle.std.proofs.Common.{◌≡◌, ◌+◌, drop}
 use Rattle.std.specs.List.{prefix_len}
-use Rattle.rdf_meaning.specs.Values.{is_zero}
+use Rattle.rdf_meaning.specs.Digits.{is_zero}
 use Rattle.rdf_terms.proofs.number.count_zeros.Given as goal
 
 abbrev pub invariant-loop-i : goal.invariant-loop-i

@@ -1,5 +1,5 @@
 use Rattle.std.proofs.Common.{◌≡◌, length}
-use Rattle.rdf_meaning.specs.Values.{without_trailing_zeros}
+use Rattle.rdf_meaning.specs.Digits.{without_trailing_zeros}
 use Rattle.rdf_terms.proofs.number.trim_trailing_zeros.Given as goal
 
 abbrev pub invariant-loop-last : goal.invariant-loop-last

@@ -1,5 +1,5 @@
 use Rattle.std.proofs.Common.{◌≡◌, map}
-use Rattle.line_meaning.specs.Present.{named, bulk}
+use Rattle.line_change_meaning.specs.Present.{named, bulk}
 use Rattle.layout_placed_meaning.specs.Placed.{later_changes}
 use Rattle.run_stats.proofs.cut.cut_at_deletion.Given as goal
 

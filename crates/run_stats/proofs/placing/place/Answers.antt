@@ -1,6 +1,6 @@
 use Rattle.std.proofs.Common.{map}
 use Rattle.std.proofs.lemmas.Result.{err_from_is_err_and}
-use Rattle.line_meaning.specs.declared.change.Change.TheVariants.{Add}
+use Rattle.line_change_meaning.specs.declared.change.Change.TheVariants.{Add}
 use Rattle.layout_standing_meaning.specs.Schemas.{LayoutOf}
 use Rattle.layout_standing_meaning.specs.Stored.{layout_of}
 use Rattle.layout_bulk_laws.specs.BulkStore.{terms_of, bulk_items}

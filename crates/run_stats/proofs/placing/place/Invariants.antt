@@ -1,7 +1,7 @@
 use Rattle.std.proofs.Common.{◌≡◌, ◌++◌, map, fold, take, drop}
 use Rattle.bags.specs.Bag.{SameBag}
-use Rattle.line_meaning.specs.declared.change.Change.TheVariants.{Add}
-use Rattle.line_meaning.specs.Present.{present}
+use Rattle.line_change_meaning.specs.declared.change.Change.TheVariants.{Add}
+use Rattle.line_change_meaning.specs.Present.{present}
 use Rattle.layout_standing_meaning.specs.Stored.{layout_of, stored_triples}
 use Rattle.run_meaning.specs.Limits.{passed_from, passed_limit}
 use Rattle.layout_bulk_laws.specs.BulkStore.{terms_of, bulk_items, bulk_store}

@@ -1,6 +1,6 @@
 use Rattle.std.proofs.Common.{◌≡◌, None, List, map, ◌∙◌, subst}
 use Rattle.std.proofs.lemmas.Result.{err_from_is_err_and}
-use Rattle.line_meaning.specs.declared.change.Change.{Change}
+use Rattle.line_change_meaning.specs.declared.change.Change.{Change}
 use Rattle.run_meaning.specs.Limits.{passed_limit}
 use Rattle.colouring_file.specs.Colours.{colour_of}
 use Rattle.rdf_triples.specs.Refusals.{Refuses}

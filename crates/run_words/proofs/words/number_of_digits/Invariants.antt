@@ -1,5 +1,5 @@
 use Rattle.std.proofs.Common.{◌≡◌, ◌<◌, ◌^◌, take}
-use Rattle.rdf_meaning.specs.Values.{number_of_digits}
+use Rattle.rdf_meaning.specs.Digits.{number_of_digits}
 use Rattle.run_words.proofs.words.number_of_digits.Given as goal
 
 abbrev pub invariant-loop-digit : goal.invariant-loop-digit

@@ -1,5 +1,5 @@
 use Rattle.std.proofs.Common.{drop}
-use Rattle.query_meaning.specs.Variables.{pattern_variables}
+use Rattle.query_eval_meaning.specs.Variables.{pattern_variables}
 use Rattle.sparql_certain.specs.Patterns.{Rest}
 use Rattle.sparql_certain.proofs.patterns.variables.Given as goal
 

@@ -1,7 +1,7 @@
 use Rattle.std.proofs.Common.{◌≡◌, ◌<◌, length, sym, ◌∙◌, subst, Some, None, true, false, map, arith}
 use Rattle.std.specs.Str.{bytes_eq}
 use Rattle.table_meaning.specs.Tables.{table_name}
-use Rattle.table_meaning.specs.TableText.{sql_line, IsFirstBadLine}
+use Rattle.table_text_meaning.specs.TableText.{sql_line, IsFirstBadLine}
 use Rattle.table_text.specs.Reading.{step}
 use Rattle.table_text.proofs.ReadLaws.{ends_early, read_whole, line_is_bad, read_on}
 use Rattle.table_text.proofs.tables.read_tables.Goals as goal

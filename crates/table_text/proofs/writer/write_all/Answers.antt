@@ -1,6 +1,6 @@
 use Rattle.std.proofs.Common.{◌≡◌, ◌++◌, ◌+◌, List, ℕ, length, true, subst, sym, ap, ◌∙◌, append_assoc, arith}
 use Rattle.table_meaning.specs.CellText.{ended}
-use Rattle.table_meaning.specs.TableText.{first_line}
+use Rattle.table_text_meaning.specs.TableText.{first_line}
 use Rattle.table_meaning.specs.Tables.{NamedTable}
 use Rattle.table_text.specs.Writing.{table_front, tables_front, tables_held}
 use Rattle.table_text.proofs.HeldCells.{tables_held_none, tables_held_more, all_held}

@@ -1,7 +1,7 @@
 use Rattle.std.proofs.Common.{◌≡◌, ◌++◌, true}
 use Rattle.rel_cells.specs.Fronts.{KeepsFront}
 use Rattle.table_meaning.specs.CellText.{ended}
-use Rattle.table_meaning.specs.TableText.{first_line}
+use Rattle.table_text_meaning.specs.TableText.{first_line}
 use Rattle.table_text.specs.Writing.{tables_front, tables_held}
 use Rattle.table_text.proofs.writer.write_all.Given as goal
 

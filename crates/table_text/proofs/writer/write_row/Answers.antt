@@ -3,7 +3,7 @@ use Rattle.std.specs.Prelude.{unwrap_or}
 use Rattle.table_meaning.specs.declared.cell.Cell.{Cell}
 use Rattle.table_meaning.specs.declared.cell.Cell.TheVariants.{Null}
 use Rattle.table_meaning.specs.CellText.{cell_text}
-use Rattle.table_meaning.specs.TableText.{is_held_cell}
+use Rattle.table_meaning.specs.CellText.{is_held_cell}
 use Rattle.table_meaning.specs.Tables.{row_at}
 use Rattle.table_text.specs.Writing.{row_front, tab_before}
 use Rattle.table_text.proofs.HeldCells.{cells_held_none, cells_held_more}

@@ -1,5 +1,5 @@
 use Rattle.std.proofs.Common.{◌≡◌}
-use Rattle.query_meaning.specs.Mapping.{agree_below}
+use Rattle.query_eval_meaning.specs.Mapping.{agree_below}
 use Rattle.query_plain_answers.specs.Places.{place_at}
 use Rattle.query_plain_answers.proofs.solution.Solution.is_compatible.Given as goal
 

@@ -1,4 +1,4 @@
-use Rattle.query_meaning.specs.Mapping.{merge}
+use Rattle.query_eval_meaning.specs.Mapping.{merge}
 use Rattle.query_plain_answers.specs.Places.{place_at}
 use Rattle.query_plain_answers.proofs.Fills.{Fills}
 use Rattle.query_plain_answers.proofs.solution.Solution.merge.Given as goal

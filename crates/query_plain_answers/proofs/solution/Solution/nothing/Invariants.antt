@@ -1,4 +1,4 @@
-use Rattle.query_meaning.specs.Mapping.{nothing}
+use Rattle.query_eval_meaning.specs.Mapping.{nothing}
 use Rattle.query_plain_answers.proofs.Fills.{Fills}
 use Rattle.query_plain_answers.proofs.solution.Solution.nothing.Given as goal
 

@@ -1,0 +1,12 @@
+pub mod Mapping
+pub mod Leaf
+pub mod Width
+pub mod Expressions
+pub mod ExpressionLaws
+pub mod Eval
+pub mod EvalLaws
+pub mod Variables
+pub mod Matches
+pub mod Answer
+pub mod AnswerText
+pub mod VariableLaws

@@ -1,0 +1,2 @@
+//! Classes and values of terms, and their order: definitions.
+#![tactic(auto)]

@@ -1,11 +1,12 @@
 -- How cells are written (this project's own; texts as in literals of N-Triples 1.1, section 7).
-use Rattle.std.specs.Prelude.{ℕ, true, false, List, [], ◌∷◌, ◌++◌, map, codes}
+use Rattle.std.specs.Prelude.{ℕ, Bool, true, false, List, [], ◌∷◌, ◌++◌, map, codes}
 use Rattle.std.specs.List.{flat_map}
+use Rattle.std.specs.Str.{is_utf8}
 use Rattle.rdf_meaning.specs.Spelling.{text_spelling}
 use Rattle.table_meaning.specs.declared.cell.Cell.{Cell}
 use Rattle.table_meaning.specs.declared.cell.Cell.TheVariants.{Null, Int, Text, Truth}
 use Rattle.table_meaning.specs.Schemas.{column_names}
-use Rattle.table_meaning.specs.Ints.{int_text}
+use Rattle.table_meaning.specs.Ints.{int_text, is_wide_int}
 use Rattle.table_meaning.specs.Tables.{RowTable}
 
 -- `.` for a null, a number in decimal, a text in double quotes, `T` and `F` for truths

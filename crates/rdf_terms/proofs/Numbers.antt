@@ -1,4 +1,4 @@
-use Rattle.std.proofs.Common.{◌≡◌, ℕ, ◌+◌, ◌*◌, ◌^◌, ◌≤◌, ◌<◌, ◌-◌, Bool, true, false, List, [], ◌∷◌, ◌++◌, take, drop, fold, refl, sym, ◌∙◌, ap, arith, reverse, lit≤, lit<, cond, suc}
+use Rattle.std.proofs.Common.{◌≡◌, ℕ, ◌+◌, ◌*◌, ◌^◌, ◌≤◌, ◌<◌, ◌-◌, min, Bool, true, false, List, [], ◌∷◌, ◌++◌, take, drop, fold, refl, sym, ◌∙◌, ap, arith, reverse, lit≤, lit<, cond, suc}
 use Rattle.std.proofs.lemmas.Bool.Decides.{nat_tests}
 use Rattle.std.proofs.Math.Nat.{pow-le-pow_right}
 use Rattle.std.proofs.lemmas.Grind.{pow_more}
@@ -16,10 +16,16 @@ below_none = record { bound = lit≤ tt }
 pub below_next : (n d i : ℕ) → IsBelow n i → d ≤ 207 → IsBelow (n * 10 + d) (i + 1)
 below_next n d i b le = let h = b.bound in record { bound = rw (pow_more 10 i) (omega (arith, h)) }
 
-pub below_fits : (n i k : ℕ) → IsBelow n i → i ≤ k → n < 23 * 10 ^ k
-below_fits n i k b le = let p : 10 ^ i ≤ 10 ^ k = pow-le-pow_right (lit< tt) le in let h = b.bound in omega (arith, h, p)
+-- a number of at most 18 digits
+pub few_digits : (n i : ℕ) → n < 23 * 10 ^ i → i ≤ 18 → n < 23 * 10 ^ 18
+few_digits n i h le = let p : 10 ^ i ≤ 10 ^ 18 = pow-le-pow_right (lit< tt) le in omega (arith, h, p)
 
--- the digits that a loop has read
+-- the digits that a loop has read, where the number stays at the greatest one
+pub record IsClamped (digits : List ℕ) (n i : ℕ) : Type 0 where
+  pub value : n ≡ min (number_of_digits (take i digits)) (2 ^ 128 - 1)
+  pub below : IsBelow n i
+
+-- the same, where the number fits
 pub record IsCount (digits : List ℕ) (n i : ℕ) : Type 0 where
   pub value : n ≡ number_of_digits (take i digits)
   pub below : IsBelow n i
@@ -54,6 +60,3 @@ trailing_other xs b e =
     let r : reverse (xs ++ b ∷ []) ≡ b ∷ reverse xs = reverse-append xs (b ∷ []) in
     let kept : without_leading_zeros (b ∷ reverse xs) ≡ b ∷ reverse xs = rw e refl in
     ap (λ (t : List ℕ). reverse (without_leading_zeros t)) r ∙ ap (λ (t : List ℕ). reverse t) (kept ∙ sym r) ∙ reverse-reverse (xs ++ b ∷ [])
-
-pub below_eighteen : (n i : ℕ) → IsBelow n i → i ≤ 18 → n < 23 * 10 ^ 18
-below_eighteen n i b le = below_fits n i 18 b le

@@ -2,7 +2,8 @@
 
 ghost use Rattle.std.specs.Prelude.{◌≡◌, option_copied};
 ghost use Rattle.std.specs.Ordering.{int_cmp};
-ghost use Rattle.rdf_value_meaning.specs.TermOrder.{option_cmp, place_order, term_order};
+ghost use Rattle.std.specs.Option.{option_cmp};
+ghost use Rattle.rdf_value_meaning.specs.TermOrder.{place_order, term_order};
 
 use crate::value::rank_of;
 use rdf_meaning::Term;

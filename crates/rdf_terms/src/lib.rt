@@ -2,6 +2,7 @@
 #![tactic(auto)]
 
 mod comparing;
+mod moment;
 mod number;
 #[cfg(test)]
 mod tests;
@@ -10,4 +11,4 @@ mod value;
 pub use comparing::{order, order_of_values, order_places};
 pub use rdf_meaning::{KnownDatatype, SideName, Term, TermId, TermKind, Text, Triple, text_of};
 pub use rdf_spelling::{are_digits, is_digit, write_term, write_text};
-pub use value::{class_of, number_of};
+pub use value::{class_of, has_value, number_of};

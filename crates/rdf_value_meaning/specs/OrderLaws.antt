@@ -1,8 +1,7 @@
 -- The order of terms and of places: total, and of which ties are equal.
-use Rattle.std.specs.Prelude.{◌≡◌, ℕ, Bool, true, false, if◌then◌else◌, ◌==◌, ◌||◌, List, Option, Some, None, refl}
+use Rattle.std.specs.Prelude.{◌≡◌, ℕ, ℤ, Bool, true, false, if◌then◌else◌, ◌==◌, ◌||◌, List, Option, Some, None, refl}
 use Rattle.std.specs.Cmp.{IsTotalOrder}
 use Rattle.std.specs.Cmp.Lexicographic.{slice_cmp, options_total}
-use Rattle.std.specs.Str.{bytes_eq}
 use Rattle.std.proofs.Common.{sym, ap, ◌∙◌}
 use Rattle.std.proofs.lemmas.Cmp.{nat_cmp_total, int_cmp_total, nat_list_cmp_total, on_total, then_total}
 use Rattle.std.proofs.lemmas.Map.Lookups.{CmpEqualImpliesEq, exact_unsigned, exact_bytes}
@@ -11,11 +10,15 @@ use Rattle.std.specs.declared.cmp.Ordering.TheVariants.{Less, Equal, Greater}
 use Rattle.std.specs.Ordering.{nat_cmp, int_cmp, ordering_then}
 use Rattle.rdf_meaning.specs.declared.kind.TermKind.{TermKind}
 use Rattle.rdf_meaning.specs.declared.kind.TermKind.TheVariants.{Iri, Blank, Tagged, Typed}
-use Rattle.rdf_meaning.specs.declared.text.KnownDatatype.TheVariants.{String, Integer, Decimal, Boolean}
-use Rattle.rdf_meaning.specs.Known.{known_bytes}
 use Rattle.rdf_meaning.specs.Terms.{RdfTerm}
-use Rattle.rdf_value_meaning.specs.Values.{Numeral, is_in_width, class_of, value_of, class_of_kind, class_of_typed, class_of_numeral, class_of_truth, integer_numeral, decimal_numeral, truth_of_text}
-use Rattle.rdf_value_meaning.specs.TermOrder.{option_cmp, term_order, place_order}
+use Rattle.rdf_value_meaning.specs.declared.form.Form.{Form}
+use Rattle.rdf_value_meaning.specs.declared.form.Form.TheVariants.{AnyText, Truth, DecimalNumber, WholeNumber, Moment}
+use Rattle.rdf_value_meaning.specs.Datatypes.{form_of}
+use Rattle.rdf_value_meaning.specs.Numbers.{Numeral, integer_numeral, decimal_numeral, is_in_width, value_of_numeral}
+use Rattle.rdf_value_meaning.specs.Moments.{instant_of_text}
+use Rattle.rdf_value_meaning.specs.Values.{Rank, has_value, class_of, value_of, class_of_kind, truth_of_text, numeral_in, rank_of_numeral, rank_of_truth, rank_of_instant, rank_of_form, rank_of_typed}
+use Rattle.std.specs.Option.{option_cmp}
+use Rattle.rdf_value_meaning.specs.TermOrder.{term_order, place_order}
 
 -- ---- total
 
@@ -31,29 +34,37 @@ place_order_total = options_total term_order_total
 
 -- the classes of literals with a datatype
 abbrev is_typed_class : ℕ → Bool
-is_typed_class n = n == 3 || n == 4 || n == 5 || n == 7 || n == 8
+is_typed_class n = has_value n || n == 5 || n == 7 || n == 8
 
-picked : (b : Bool) (m n : ℕ) → is_typed_class m ≡ true → is_typed_class n ≡ true → is_typed_class (if b then m else n) ≡ true
-picked true m n h k = h
-picked false m n h k = k
+picked : (b : Bool) (r s : Rank) → is_typed_class r.0 ≡ true → is_typed_class s.0 ≡ true → is_typed_class (if b then r else s).0 ≡ true
+picked true r s h k = h
+picked false r s h k = k
 
-numeral_class : (n : Option Numeral) → is_typed_class (class_of_numeral n) ≡ true
+numeral_class : (n : Option Numeral) → is_typed_class (rank_of_numeral n).0 ≡ true
 numeral_class None = refl
-numeral_class (Some n) = picked (is_in_width n) 3 7 refl refl
+numeral_class (Some n) = picked (is_in_width n) (3, Some (value_of_numeral n)) (7, None) refl refl
 
-truth_class : (b : Option Bool) → is_typed_class (class_of_truth b) ≡ true
+truth_class : (b : Option Bool) → is_typed_class (rank_of_truth b).0 ≡ true
 truth_class None = refl
 truth_class (Some b) = refl
 
-typed_class : (text aux : List ℕ) → is_typed_class (class_of_typed text aux) ≡ true
-typed_class text aux =
-    picked (bytes_eq aux (known_bytes String)) 5 _ refl
-    (picked (bytes_eq aux (known_bytes Integer)) (class_of_numeral (integer_numeral text)) _ (numeral_class (integer_numeral text))
-    (picked (bytes_eq aux (known_bytes Decimal)) (class_of_numeral (decimal_numeral text)) _ (numeral_class (decimal_numeral text))
-    (picked (bytes_eq aux (known_bytes Boolean)) (class_of_truth (truth_of_text text)) 7 (truth_class (truth_of_text text)) refl)))
+instant_class : (n : Option ℤ) → is_typed_class (rank_of_instant n).0 ≡ true
+instant_class None = refl
+instant_class (Some n) = refl
 
-not_typed : (text aux : List ℕ) (n : ℕ) → class_of_typed text aux ≡ n → is_typed_class n ≡ false → ⊥
-not_typed text aux n e f = let h : is_typed_class n ≡ true = ap is_typed_class (sym e) ∙ typed_class text aux in cc
+form_class : (form : Form) (text : List ℕ) → is_typed_class (rank_of_form form text).0 ≡ true
+form_class AnyText text = refl
+form_class Truth text = truth_class (truth_of_text text)
+form_class DecimalNumber text = numeral_class (decimal_numeral text)
+form_class (WholeNumber range) text = numeral_class (numeral_in range (integer_numeral text))
+form_class Moment text = instant_class (instant_of_text text)
+
+typed_class : (form : Option Form) (text : List ℕ) → is_typed_class (rank_of_typed form text).0 ≡ true
+typed_class None text = refl
+typed_class (Some form) text = form_class form text
+
+not_typed : (text aux : List ℕ) (n : ℕ) → class_of_kind Typed text aux ≡ n → is_typed_class n ≡ false → ⊥
+not_typed text aux n e f = let h : is_typed_class n ≡ true = ap is_typed_class (sym e) ∙ typed_class (form_of aux) text in cc
 
 -- the class tells the kind
 pub kind_of_class : (j k : TermKind) (text aux : List ℕ) → class_of_kind j text aux ≡ class_of_kind k text aux → j ≡ k

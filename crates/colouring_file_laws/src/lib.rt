@@ -1,7 +1,12 @@
 //! Laws of colouring files: the grammar and the readings that are computed agree in both directions, so a
-//! file has one reading or one refusal.
+//! file has one reading or one refusal; and known columns that fit are taken.
 #![tactic(auto)]
 
+ghost use Rattle.std.specs.Prelude.{◌≡◌, ◌≤◌, ◌<◌, ℕ, List, None};
+ghost use Rattle.std.specs.List.{AllByRecursion, IsDistinct};
+ghost use Rattle.pred_columns.specs.declared.columns.ColourPair.{ColourPair};
+ghost use Rattle.pred_columns.specs.Refusal.{refusal_of};
+ghost use Rattle.colouring_file_laws.specs.Pairs.{same_iri};
 ghost use Rattle.colouring_file_laws.specs.ReadingLaws.{ReadingsAreComputed, RefusalsAreComputed, OneReading, OneRefusal, NeverBoth, OneAnswer};
 
 /// What the lines of a text read as in the grammar is what is computed of them, and so is the first line
@@ -15,4 +20,9 @@ pub fn colourings_are_read_once()
     ensures one_refusal { OneRefusal }
     ensures never_both { NeverBoth }
     ensures one_answer { OneAnswer }
+{}
+
+/// Known columns below the count, none of whose IRIs stands twice, are not refused.
+pub fn fit_columns_are_taken()
+    ensures { (k hashes : ℕ) (pairs : List ColourPair) → 1 ≤ k → k ≤ 32 → 1 ≤ hashes → hashes ≤ 4 → AllByRecursion (λ p. p.column < k) pairs → IsDistinct same_iri pairs → refusal_of k hashes pairs ≡ None }
 {}

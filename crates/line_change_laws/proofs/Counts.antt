@@ -1,4 +1,4 @@
--- How many changes a text has.
+-- How many changes a data file has.
 use Rattle.std.proofs.Common.{◌≡◌, ℕ, suc, ◌+◌, ◌≤◌, ◌==◌, Bool, true, false, if◌then◌else◌, List, [], ◌∷◌, length, length-append, Option, Some, None, Result, Ok, Err, arith, subst, nat_lt}
 use Rattle.std.specs.Prelude.{IfOk}
 use Rattle.line_change_meaning.specs.declared.change.Change.{Change}
@@ -26,12 +26,12 @@ one_said n (Some Nothing) = omega arith
 one_said n (Some (Adds t)) = omega arith
 one_said n (Some (Deletes t)) = omega arith
 
-one_change : (line : Line) → IfOk (line_changes line) (λ (changes : List Change). length changes ≤ 1)
-one_change line = by (nat_lt 65536 (length line.text))
+one_change : (n : ℕ) (line : Line) → IfOk (line_changes n line) (λ (changes : List Change). length changes ≤ 1)
+one_change n line = by (nat_lt 65536 (length line.text))
   where
-    by : (long : Bool) → IfOk (if long then Err (TooLong line.number) else says line.number (reading_of line.text)) (λ (changes : List Change). length changes ≤ 1)
+    by : (long : Bool) → IfOk (if long then Err (TooLong line.number) else says line.number (reading_of n line.text)) (λ (changes : List Change). length changes ≤ 1)
     by true = tt
-    by false = one_said line.number (reading_of line.text)
+    by false = one_said line.number (reading_of n line.text)
 
 joined : (front others : Result (List Change) Refused) (n : ℕ) → IfOk front (λ (changes : List Change). length changes ≤ 1) → IfOk others (λ (changes : List Change). length changes ≤ n)
     → IfOk (then_changes front others) (λ (changes : List Change). length changes ≤ suc n)
@@ -39,12 +39,12 @@ joined (Err refused) others n h k = tt
 joined (Ok front) (Err refused) n h k = tt
 joined (Ok front) (Ok others) n h k = let l = length-append front others in omega (arith, h, k, l)
 
-few_in : (lines : List Line) → IfOk (changes_in lines) (λ (changes : List Change). length changes ≤ length lines)
-few_in [] = omega arith
-few_in (line ∷ lines) = joined (line_changes line) (changes_in lines) (length lines) (one_change line) (few_in lines)
+few_in : (n : ℕ) (lines : List Line) → IfOk (changes_in n lines) (λ (changes : List Change). length changes ≤ length lines)
+few_in n [] = omega arith
+few_in n (line ∷ lines) = joined (line_changes n line) (changes_in n lines) (length lines) (one_change n line) (few_in n lines)
 
-pub few : (bytes : List ℕ) (changes : List Change) → changes_of bytes ≡ Ok changes → length changes ≤ length bytes + 1
-few bytes changes e =
-    let k : length changes ≤ length (lines_of bytes) = subst (λ (r : Result (List Change) Refused). IfOk r (λ (cs : List Change). length cs ≤ length (lines_of bytes))) e (few_in (lines_of bytes)) in
+pub few : (n : ℕ) (bytes : List ℕ) (changes : List Change) → changes_of n bytes ≡ Ok changes → length changes ≤ length bytes + 1
+few n bytes changes e =
+    let k : length changes ≤ length (lines_of bytes) = subst (λ (r : Result (List Change) Refused). IfOk r (λ (cs : List Change). length cs ≤ length (lines_of bytes))) e (few_in n (lines_of bytes)) in
     let l = few_lines 1 bytes in
     omega (arith, k, l)

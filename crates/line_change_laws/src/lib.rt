@@ -1,4 +1,4 @@
-//! Laws of changes: which triples are present after them, and how many a text has.
+//! Laws of changes: which triples are present after them, and how many a data file has.
 #![tactic(auto)]
 
 ghost use Rattle.std.specs.Prelude.{◌≡◌, ℕ, ◌+◌, ◌≤◌, List, [], ◌∷◌, ◌++◌, map, fold, length, Ok, if◌then◌else◌};
@@ -27,7 +27,7 @@ pub fn added()
     ensures { (triples : List RdfTriple) → present (map Add triples) ≡ fold with_triple [] triples }
 {}
 
-/// A text has at most one change more than bytes.
+/// A data file has at most one change more than bytes.
 pub fn few_changes()
-    ensures { (bytes : List ℕ) (changes : List Change) → changes_of bytes ≡ Ok changes → length changes ≤ length bytes + 1 }
+    ensures { (n : ℕ) (bytes : List ℕ) (changes : List Change) → changes_of n bytes ≡ Ok changes → length changes ≤ length bytes + 1 }
 {}

@@ -14,8 +14,8 @@ use Rattle.rdf_meaning.specs.Terms.{RdfTerm, typed, tagged, is_label_of, goes_on
 use Rattle.line_meaning.specs.declared.enclosure.Enclosure.TheVariants.{Iri, Text}
 use Rattle.line_meaning.specs.Characters.{is_tag_part, lower}
 use Rattle.line_meaning.specs.Grammar.{Each, Encloses, SpellsBlank, SpellsSubject, SpellsLiteral, SpellsObject}
-use Rattle.line_meaning.specs.Reader.{◌>>=◌, text_at, is_label_or_dot, is_dot, without_last_dots, label_run, label_at, blank_at, starts, subject_at, tag_run, tagged_at, typed_at, literal_of, literal_at, object_at}
-use Rattle.line_laws.proofs.Fronts.{past, before}
+use Rattle.line_meaning.specs.Reader.{text_at, is_label_or_dot, is_dot, without_last_dots, label_run, label_at, blank_at, starts, subject_at, tag_run, tagged_at, typed_at, literal_of, literal_at, object_at}
+use Rattle.line_laws.proofs.Fronts.{past, before, each_push}
 use Rattle.line_laws.proofs.Pieces.{complete_text, not_same}
 use Rattle.line_laws.proofs.Tokens.{iri_back, iri_term_back, small_tag}
 
@@ -39,7 +39,7 @@ or_left : (a b : Bool) → a ≡ true → (a || b) ≡ true
 or_left true b e = refl
 or_left false b e = cc
 
-or_parts : (s m d n : Bool) → (s || d) ≡ true → (s || m || d || n) ≡ true
+pub or_parts : (s m d n : Bool) → (s || d) ≡ true → (s || m || d || n) ≡ true
 or_parts true m d n e = refl
 or_parts false true d n e = refl
 or_parts false false true n e = refl
@@ -81,6 +81,10 @@ goes_ended (c ∷ cs) e = by_rest (goes_ended cs (goes_cases (eqb c 46) c cs ref
         inr (record { front = []; last = c; whole = ap (λ (t : List ℕ). c ∷ t) none; other = alone (eqb c 46) c refl (subst (λ (t : List ℕ). goes_on_as_label (c ∷ t) ≡ true) none e) })
     by_rest (inr h) = inr (record { front = c ∷ h.front; last = h.last; whole = ap (λ (t : List ℕ). c ∷ t) h.whole; other = h.other })
 
+-- a label doesn't begin with a full stop
+pub no_dot : (c : ℕ) → (is_label_start c || is_digit c) ≡ true → eqb c 46 ≡ false
+no_dot c first = not_same c 46 (λ at. let k : (is_label_start 46 || is_digit 46) ≡ true = subst (λ (x : ℕ). (is_label_start x || is_digit x) ≡ true) at first in cc)
+
 label_kept : (label : List ℕ) → is_label_of label ≡ true → without_last_dots label ≡ label
 label_kept [] e = cc
 label_kept (c ∷ cs) e = by_rest (goes_ended cs (second_so (is_label_start c || is_digit c) (goes_on_as_label cs) e))
@@ -88,11 +92,8 @@ label_kept (c ∷ cs) e = by_rest (goes_ended cs (second_so (is_label_start c ||
     first : (is_label_start c || is_digit c) ≡ true
     first = first_so (is_label_start c || is_digit c) (goes_on_as_label cs) e
 
-    no_dot : eqb c 46 ≡ false
-    no_dot = not_same c 46 (λ at. let k : (is_label_start 46 || is_digit 46) ≡ true = subst (λ (x : ℕ). (is_label_start x || is_digit x) ≡ true) at first in cc)
-
     by_rest : (cs ≡ []) ⊎ Ended cs → without_last_dots (c ∷ cs) ≡ c ∷ cs
-    by_rest (inl none) = rw none (last_other [] c no_dot)
+    by_rest (inl none) = rw none (last_other [] c (no_dot c first))
     by_rest (inr h) = rw h.whole (last_other (c ∷ h.front) h.last h.other)
 
 -- what may stand behind a term: a blank, an IRI, or a full stop that ends a triple
@@ -105,15 +106,11 @@ pub data EndsTerm (rest : List ℕ) : Type 0 where
 run_stops : (label rest : List ℕ) → is_label_of label ≡ true → prefix_len is_label_or_dot rest ≡ 0 → label_run (label ++ rest) ≡ label
 run_stops label rest e z = ap (λ (t : List ℕ). without_last_dots t) (before is_label_or_dot label rest (label_each label e) z) ∙ label_kept label e
 
-each_push : (cs : List ℕ) (c : ℕ) → Each is_label_or_dot cs → is_label_or_dot c ≡ true → Each is_label_or_dot (cs ++ c ∷ [])
-each_push [] c e h = (h, tt)
-each_push (d ∷ cs) c e h = (e.0, each_push cs c e.1 h)
-
 run_dot : (label more : List ℕ) → is_label_of label ≡ true → prefix_len is_label_or_dot more ≡ 0 → label_run (label ++ 46 ∷ more) ≡ label
 run_dot label more e z =
     let g : label ++ 46 ∷ more ≡ (label ++ 46 ∷ []) ++ more = sym (append_assoc label (46 ∷ []) more) in
     ap (λ (t : List ℕ). label_run t) g
-    ∙ ap (λ (t : List ℕ). without_last_dots t) (before is_label_or_dot (label ++ 46 ∷ []) more (each_push label 46 (label_each label e) refl) z)
+    ∙ ap (λ (t : List ℕ). without_last_dots t) (before is_label_or_dot (label ++ 46 ∷ []) more (each_push is_label_or_dot label 46 (label_each label e) refl) z)
     ∙ last_dot label ∙ label_kept label e
 
 run_back : (label rest : List ℕ) → is_label_of label ≡ true → EndsTerm rest → label_run (label ++ rest) ≡ label
@@ -126,20 +123,20 @@ label_back : (label rest : List ℕ) → is_label_of label ≡ true → EndsTerm
 unfolding label_at
 label_back label rest e ends = rw (run_back label rest e ends, e, drop-append_seam label rest) refl
 
-blank_back : (w rest : List ℕ) (t : RdfTerm) → SpellsBlank w t → EndsTerm rest → blank_at (w ++ rest) ≡ Some (t, rest)
+blank_back : (n : ℕ) (w rest : List ℕ) (t : RdfTerm) → SpellsBlank n w t → EndsTerm rest → blank_at n (w ++ rest) ≡ Some (t, rest)
 unfolding blank_at
-blank_back w rest t h ends = rw (h.whole, label_back h.label rest h.fine ends, h.term) refl
+blank_back n w rest t h ends = rw (h.whole, label_back h.label rest h.fine ends, h.term) refl
 
 iri_starts : (w text rest : List ℕ) → Encloses Iri w text → starts 60 (w ++ rest) ≡ true
 iri_starts w text rest h = rw h.whole refl
 
-blank_starts : (w rest : List ℕ) (t : RdfTerm) → SpellsBlank w t → starts 60 (w ++ rest) ≡ false
-blank_starts w rest t h = rw h.whole refl
+blank_starts : (n : ℕ) (w rest : List ℕ) (t : RdfTerm) → SpellsBlank n w t → starts 60 (w ++ rest) ≡ false
+blank_starts n w rest t h = rw h.whole refl
 
-pub subject_back : (w rest : List ℕ) (t : RdfTerm) → SpellsSubject w t → EndsTerm rest → subject_at (w ++ rest) ≡ Some (t, rest)
+pub subject_back : (n : ℕ) (w rest : List ℕ) (t : RdfTerm) → SpellsSubject n w t → EndsTerm rest → subject_at n (w ++ rest) ≡ Some (t, rest)
 unfolding subject_at
-subject_back w rest t (inl h) ends = rw (iri_starts w h.text rest h.enclosed) (iri_term_back w rest t h)
-subject_back w rest t (inr h) ends = rw (blank_starts w rest t h) (blank_back w rest t h ends)
+subject_back n w rest t (inl h) ends = rw (iri_starts w h.text rest h.enclosed) (iri_term_back w rest t h)
+subject_back n w rest t (inr h) ends = rw (blank_starts n w rest t h) (blank_back n w rest t h ends)
 
 literal_text : (w text more : List ℕ) → Encloses Text w text → literal_at (w ++ more) ≡ literal_of text more
 unfolding literal_at text_at
@@ -220,11 +217,11 @@ literal_starts w rest t (inl h) = text_starts w h.text rest h.enclosed
 literal_starts w rest t (inr (inl h)) = rw (h.whole, append_assoc h.front (64 ∷ h.tag) rest) (text_starts h.front h.text (64 ∷ (h.tag ++ rest)) h.enclosed)
 literal_starts w rest t (inr (inr h)) = rw (h.whole, append_assoc h.front (94 ∷ 94 ∷ h.back) rest) (text_starts h.front h.text (94 ∷ 94 ∷ (h.back ++ rest)) h.enclosed)
 
-subject_starts : (w rest : List ℕ) (t : RdfTerm) → SpellsSubject w t → starts 34 (w ++ rest) ≡ false
-subject_starts w rest t (inl h) = rw h.enclosed.whole refl
-subject_starts w rest t (inr h) = rw h.whole refl
+subject_starts : (n : ℕ) (w rest : List ℕ) (t : RdfTerm) → SpellsSubject n w t → starts 34 (w ++ rest) ≡ false
+subject_starts n w rest t (inl h) = rw h.enclosed.whole refl
+subject_starts n w rest t (inr h) = rw h.whole refl
 
-pub object_back : (w rest : List ℕ) (t : RdfTerm) → SpellsObject w t → EndsTerm rest → object_at (w ++ rest) ≡ Some (t, rest)
+pub object_back : (n : ℕ) (w rest : List ℕ) (t : RdfTerm) → SpellsObject n w t → EndsTerm rest → object_at n (w ++ rest) ≡ Some (t, rest)
 unfolding object_at
-object_back w rest t (inl h) ends = rw (subject_starts w rest t h) (subject_back w rest t h ends)
-object_back w rest t (inr h) ends = rw (literal_starts w rest t h) (literal_back w rest t h ends)
+object_back n w rest t (inl h) ends = rw (subject_starts n w rest t h) (subject_back n w rest t h ends)
+object_back n w rest t (inr h) ends = rw (literal_starts w rest t h) (literal_back w rest t h ends)

@@ -11,9 +11,9 @@ use Rattle.line_laws.proofs.LinesRead.{sound}
 use Rattle.line_laws.proofs.LinesBack.{complete}
 
 -- what one line gives, by its length and its reading
-data LineGives (line : Line) (given : Result (List Change) Refused) : Type 0 where
-  reads : (r : Reading) → ReadsAs line r → given ≡ Ok (changes_by r) → LineGives line given
-  refused : (why : Refused) → IsRefusedFor line why → given ≡ Err why → LineGives line given
+data LineGives (n : ℕ) (line : Line) (given : Result (List Change) Refused) : Type 0 where
+  reads : (r : Reading) → ReadsAs n line r → given ≡ Ok (changes_by r) → LineGives n line given
+  refused : (why : Refused) → IsRefusedFor n line why → given ≡ Err why → LineGives n line given
 
 not_long : (n : ℕ) → nat_lt 65536 n ≡ false → n ≤ 65536
 not_long n e = grind (arith, nat_tests)
@@ -21,40 +21,40 @@ not_long n e = grind (arith, nat_tests)
 long : (n : ℕ) → nat_lt 65536 n ≡ true → 65536 < n
 long n e = grind (arith, nat_tests)
 
-line_cases : (b : Bool) (o : Option Reading) (line : Line) → nat_lt 65536 (length line.text) ≡ b → reading_of line.text ≡ o
-    → LineGives line (cond b (Err (TooLong line.number)) (says line.number o))
-line_cases true o line t e = refused (TooLong line.number) (refl, long (length line.text) t) refl
-line_cases false None line t e =
-    refused (Bad line.number) (refl, not_long (length line.text) t, λ r h. let k : reading_of line.text ≡ Some r = complete line.text r h in cc) refl
-line_cases false (Some r) line t e = reads r (record { within = not_long (length line.text) t; reads = sound line.text r e }) refl
+line_cases : (n : ℕ) (b : Bool) (o : Option Reading) (line : Line) → nat_lt 65536 (length line.text) ≡ b → reading_of n line.text ≡ o
+    → LineGives n line (cond b (Err (TooLong line.number)) (says line.number o))
+line_cases n true o line t e = refused (TooLong line.number) (refl, long (length line.text) t) refl
+line_cases n false None line t e =
+    refused (Bad line.number) (refl, not_long (length line.text) t, λ r h. let k : reading_of n line.text ≡ Some r = complete n line.text r h in cc) refl
+line_cases n false (Some r) line t e = reads r (record { within = not_long (length line.text) t; reads = sound n line.text r e }) refl
 
-line_gives : (line : Line) → LineGives line (line_changes line)
-line_gives line = line_cases (nat_lt 65536 (length line.text)) (reading_of line.text) line refl refl
+line_gives : (n : ℕ) (line : Line) → LineGives n line (line_changes n line)
+line_gives n line = line_cases n (nat_lt 65536 (length line.text)) (reading_of n line.text) line refl refl
 
 -- what the lines give
-data LinesGive (lines : List Line) (given : Result (List Change) Refused) : Type 0 where
-  all_read : (changes : List Change) → LinesRead lines changes → given ≡ Ok changes → LinesGive lines given
-  first_refused : (why : Refused) → FirstRefused lines why → given ≡ Err why → LinesGive lines given
+pub data LinesGive (n : ℕ) (lines : List Line) (given : Result (List Change) Refused) : Type 0 where
+  all_read : (changes : List Change) → LinesRead n lines changes → given ≡ Ok changes → LinesGive n lines given
+  first_refused : (why : Refused) → FirstRefused n lines why → given ≡ Err why → LinesGive n lines given
 
-then_gives : (line : Line) (lines : List Line) (here others : Result (List Change) Refused) → LineGives line here → LinesGive lines others → LinesGive (line ∷ lines) (then_changes here others)
-then_gives line lines here others (refused why h e) more = first_refused why (inl h) (rw e refl)
-then_gives line lines here others (reads r h e) (all_read changes a f) = all_read (changes_by r ++ changes) (r, changes, h, a, refl) (rw (e, f) refl)
-then_gives line lines here others (reads r h e) (first_refused why a f) = first_refused why (inr ((r, h), a)) (rw (e, f) refl)
+then_gives : (n : ℕ) (line : Line) (lines : List Line) (here others : Result (List Change) Refused) → LineGives n line here → LinesGive n lines others → LinesGive n (line ∷ lines) (then_changes here others)
+then_gives n line lines here others (refused why h e) more = first_refused why (inl h) (rw e refl)
+then_gives n line lines here others (reads r h e) (all_read changes a f) = all_read (changes_by r ++ changes) (r, changes, h, a, refl) (rw (e, f) refl)
+then_gives n line lines here others (reads r h e) (first_refused why a f) = first_refused why (inr ((r, h), a)) (rw (e, f) refl)
 
-lines_give : (lines : List Line) → LinesGive lines (changes_in lines)
-lines_give [] = all_read [] refl refl
-lines_give (line ∷ lines) = then_gives line lines (line_changes line) (changes_in lines) (line_gives line) (lines_give lines)
+pub lines_give : (n : ℕ) (lines : List Line) → LinesGive n lines (changes_in n lines)
+lines_give n [] = all_read [] refl refl
+lines_give n (line ∷ lines) = then_gives n line lines (line_changes n line) (changes_in n lines) (line_gives n line) (lines_give n lines)
 
 pub changes_read : ChangesAreRead
-changes_read bytes changes e = by_gives (lines_give (lines_of bytes))
+changes_read n bytes changes e = by_gives (lines_give n (lines_of bytes))
   where
-    by_gives : LinesGive (lines_of bytes) (changes_in (lines_of bytes)) → LinesRead (lines_of bytes) changes
-    by_gives (all_read others a f) = let same : others ≡ changes = cc in subst (λ (x : List Change). LinesRead (lines_of bytes) x) same a
+    by_gives : LinesGive n (lines_of bytes) (changes_in n (lines_of bytes)) → LinesRead n (lines_of bytes) changes
+    by_gives (all_read others a f) = let same : others ≡ changes = cc in subst (λ (x : List Change). LinesRead n (lines_of bytes) x) same a
     by_gives (first_refused why a f) = cc
 
 pub refusals_first : RefusalsAreFirst
-refusals_first bytes why e = by_gives (lines_give (lines_of bytes))
+refusals_first n bytes why e = by_gives (lines_give n (lines_of bytes))
   where
-    by_gives : LinesGive (lines_of bytes) (changes_in (lines_of bytes)) → FirstRefused (lines_of bytes) why
+    by_gives : LinesGive n (lines_of bytes) (changes_in n (lines_of bytes)) → FirstRefused n (lines_of bytes) why
     by_gives (all_read others a f) = cc
-    by_gives (first_refused other a f) = let same : other ≡ why = cc in subst (λ (x : Refused). FirstRefused (lines_of bytes) x) same a
+    by_gives (first_refused other a f) = let same : other ≡ why = cc in subst (λ (x : Refused). FirstRefused n (lines_of bytes) x) same a

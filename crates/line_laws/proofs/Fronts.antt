@@ -31,6 +31,10 @@ pub front_passes : (p : ℕ → Bool) (bytes : List ℕ) → Each p (take (prefi
 front_passes p [] = tt
 front_passes p (b ∷ bs) = passes_at p b bs (p b) refl (front_passes p bs)
 
+pub each_push : (p : ℕ → Bool) (cs : List ℕ) (c : ℕ) → Each p cs → p c ≡ true → Each p (cs ++ c ∷ [])
+each_push p [] c e h = (h, tt)
+each_push p (d ∷ cs) c e h = (e.0, each_push p cs c e.1 h)
+
 pub parts : (n : ℕ) (bytes : List ℕ) → bytes ≡ take n bytes ++ drop n bytes
 parts zero bytes = refl
 parts (suc n) [] = refl

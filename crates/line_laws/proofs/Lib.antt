@@ -5,3 +5,5 @@ pub mod LinesRead
 pub mod Back
 pub mod LinesBack
 pub mod ChangesRead
+pub mod Computed
+pub mod Labels

@@ -1,5 +1,5 @@
 -- Terms at the front: what is read is what is spelled.
-use Rattle.std.proofs.Common.{◌≡◌, ℕ, ◌+◌, ◌<◌, ◌⊎◌, inl, inr, Bool, true, false, cond, eqb, List, [], ◌∷◌, ◌++◌, length, take, drop, map, reverse, refl, sym, ap, ◌∙◌, subst, arith, append_assoc}
+use Rattle.std.proofs.Common.{◌≡◌, ℕ, ◌<◌, ◌⊎◌, inl, inr, Bool, true, false, cond, eqb, List, [], ◌∷◌, ◌++◌, length, take, drop, map, reverse, refl, sym, ap, ◌∙◌, subst, arith, append_assoc}
 use Rattle.std.specs.Prelude.{Some, encode_utf8_all}
 use Rattle.std.specs.List.{prefix_len}
 use Rattle.std.proofs.Math.Seq.{drop-append_seam}
@@ -10,12 +10,13 @@ use Rattle.std.proofs.lemmas.Str.{encodes-IsAscii}
 use Rattle.std.proofs.lemmas.Str.Ascii.{IsAscii-nil, IsAscii-cons}
 use Rattle.rdf_meaning.specs.declared.text.KnownDatatype.TheVariants.{String}
 use Rattle.rdf_meaning.specs.Known.{known_bytes}
-use Rattle.rdf_meaning.specs.Terms.{RdfTerm, iri, typed, tagged, blank, is_label_of, is_tag}
+use Rattle.rdf_meaning.specs.Terms.{RdfTerm, iri, typed, tagged, is_label_of, is_tag}
 use Rattle.line_meaning.specs.declared.enclosure.Enclosure.{Enclosure}
 use Rattle.line_meaning.specs.declared.enclosure.Enclosure.TheVariants.{Iri, Text}
 use Rattle.line_meaning.specs.Characters.{close_of, is_tag_part, lower}
+use Rattle.line_meaning.specs.Labels.{blank_in}
 use Rattle.line_meaning.specs.Grammar.{Each, Encloses, open_of, SpellsIri, SpellsBlank, SpellsSubject, SpellsLiteral, SpellsObject}
-use Rattle.line_meaning.specs.Reader.{◌>>=◌, after_char, text_at, iri_at, iri_term_at, is_label_or_dot, is_dot, without_last_dots, label_run, label_at, blank_at, starts, subject_at, tag_run, tagged_at, typed_at, literal_of, literal_at, object_at}
+use Rattle.line_meaning.specs.Reader.{after_char, text_at, iri_at, iri_term_at, is_label_or_dot, is_dot, without_last_dots, label_run, label_at, blank_at, starts, subject_at, tag_run, tagged_at, typed_at, literal_of, literal_at, object_at}
 use Rattle.line_laws.proofs.Fronts.{bind_some, map_some, chosen, front_passes, parts, after_char_is}
 use Rattle.line_laws.proofs.Pieces.{Found, sound_text, complete_text}
 
@@ -74,29 +75,29 @@ run_front cs =
     let same : drop (length (label_run cs)) cs ≡ later = ap (λ (t : List ℕ). drop (length (label_run cs)) t) e ∙ drop-append_seam (label_run cs) later in
     e ∙ ap (λ (t : List ℕ). label_run cs ++ t) (sym same)
 
-pub blank_front : (cs : List ℕ) (x : RdfTerm × List ℕ) → blank_at cs ≡ Some x → Front (λ w. SpellsBlank w x.0) cs x.1
+pub blank_front : (n : ℕ) (cs : List ℕ) (x : RdfTerm × List ℕ) → blank_at n cs ≡ Some x → Front (λ w. SpellsBlank n w x.0) cs x.1
 unfolding blank_at label_at
-blank_front cs x e =
+blank_front n cs x e =
     let a = bind_some (after_char 95 cs) _ x e in
     let b = bind_some (after_char 58 a.0) _ x a.2 in
-    let l = bind_some (label_at b.0) (λ label. Some (blank label.0, label.1)) x b.2 in
+    let l = bind_some (label_at b.0) (λ label. Some (blank_in n label.0, label.1)) x b.2 in
     let run = label_run b.0 in
     let h = chosen (is_label_of run) (encode_utf8_all run, drop (length run) b.0) l.0 l.1 in
-    let last : Some (blank l.0.0, l.0.1) ≡ Some x = l.2 in
-    let same : (blank l.0.0, l.0.1) ≡ x = cc in
+    let last : Some (blank_in n l.0.0, l.0.1) ≡ Some x = l.2 in
+    let same : (blank_in n l.0.0, l.0.1) ≡ x = cc in
     rw (← same, ← h.1) (record {
       written = 95 ∷ 58 ∷ run;
       is = record { label = run; fine = h.0; whole = refl; term = refl };
       whole = after_char_is 95 cs a.0 a.1 ∙ ap (λ (t : List ℕ). 95 ∷ t) (after_char_is 58 a.0 b.0 b.1 ∙ ap (λ (t : List ℕ). 58 ∷ t) (run_front b.0));
     })
 
-subject_cases : (b : Bool) (cs : List ℕ) (x : RdfTerm × List ℕ) → cond b (iri_term_at cs) (blank_at cs) ≡ Some x → Front (λ w. SpellsSubject w x.0) cs x.1
-subject_cases true cs x e = let f = iri_term_front cs x e in record { written = f.written; is = inl f.is; whole = f.whole }
-subject_cases false cs x e = let f = blank_front cs x e in record { written = f.written; is = inr f.is; whole = f.whole }
+subject_cases : (n : ℕ) (b : Bool) (cs : List ℕ) (x : RdfTerm × List ℕ) → cond b (iri_term_at cs) (blank_at n cs) ≡ Some x → Front (λ w. SpellsSubject n w x.0) cs x.1
+subject_cases n true cs x e = let f = iri_term_front cs x e in record { written = f.written; is = inl f.is; whole = f.whole }
+subject_cases n false cs x e = let f = blank_front n cs x e in record { written = f.written; is = inr f.is; whole = f.whole }
 
-pub subject_front : (cs : List ℕ) (x : RdfTerm × List ℕ) → subject_at cs ≡ Some x → Front (λ w. SpellsSubject w x.0) cs x.1
+pub subject_front : (n : ℕ) (cs : List ℕ) (x : RdfTerm × List ℕ) → subject_at n cs ≡ Some x → Front (λ w. SpellsSubject n w x.0) cs x.1
 unfolding subject_at
-subject_front cs x e = subject_cases (starts 60 cs) cs x e
+subject_front n cs x e = subject_cases n (starts 60 cs) cs x e
 
 small_part : (c : ℕ) → is_tag_part c ≡ true → lower c < 128
 small_part c e = grind (arith, nat_tests)
@@ -189,10 +190,10 @@ literal_front cs x e =
     let f = enclosed_by Text cs a.0 b.0 (after_char_is 34 cs a.0 a.1) (text_front Text a.0 b.0 b.1) in
     literal_cases cs x b.0.0 b.0.1 f (literal_follows b.0.0 b.0.1 x b.2)
 
-object_cases : (b : Bool) (cs : List ℕ) (x : RdfTerm × List ℕ) → cond b (literal_at cs) (subject_at cs) ≡ Some x → Front (λ w. SpellsObject w x.0) cs x.1
-object_cases true cs x e = let f = literal_front cs x e in record { written = f.written; is = inr f.is; whole = f.whole }
-object_cases false cs x e = let f = subject_front cs x e in record { written = f.written; is = inl f.is; whole = f.whole }
+object_cases : (n : ℕ) (b : Bool) (cs : List ℕ) (x : RdfTerm × List ℕ) → cond b (literal_at cs) (subject_at n cs) ≡ Some x → Front (λ w. SpellsObject n w x.0) cs x.1
+object_cases n true cs x e = let f = literal_front cs x e in record { written = f.written; is = inr f.is; whole = f.whole }
+object_cases n false cs x e = let f = subject_front n cs x e in record { written = f.written; is = inl f.is; whole = f.whole }
 
-pub object_front : (cs : List ℕ) (x : RdfTerm × List ℕ) → object_at cs ≡ Some x → Front (λ w. SpellsObject w x.0) cs x.1
+pub object_front : (n : ℕ) (cs : List ℕ) (x : RdfTerm × List ℕ) → object_at n cs ≡ Some x → Front (λ w. SpellsObject n w x.0) cs x.1
 unfolding object_at
-object_front cs x e = object_cases (starts 34 cs) cs x e
+object_front n cs x e = object_cases n (starts 34 cs) cs x e

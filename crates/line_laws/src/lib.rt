@@ -3,4 +3,4 @@
 
 mod laws;
 
-pub use laws::lines_are_read;
+pub use laws::{files_are_read_once, labels_are_kept_apart, lines_are_read};

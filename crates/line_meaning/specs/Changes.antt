@@ -1,4 +1,4 @@
--- What a text of data lines changes, or where it is refused.
+-- What the lines of data file n change, or where the file is refused.
 use Rattle.std.specs.Prelude.{ℕ, List, [], ◌∷◌, ◌++◌, length, Option, Some, None, Result, Ok, Err, nat_lt, if◌then◌else◌}
 use Rattle.line_meaning.specs.Lines.{Line, lines_of, Reading, Nothing, Adds, Deletes}
 use Rattle.line_meaning.specs.Reader.{reading_of}
@@ -18,12 +18,12 @@ changes_by (Deletes triple) = Delete triple ∷ []
 
 -- a line without a reading is out of the grammar
 abbrev pub says : ℕ → Option Reading → Result (List Change) Refused
-says n None = Err (Bad n)
-says n (Some reading) = Ok (changes_by reading)
+says number None = Err (Bad number)
+says number (Some reading) = Ok (changes_by reading)
 
 -- a line of more than 65,536 bytes is refused as such
-abbrev pub line_changes : Line → Result (List Change) Refused
-line_changes line = if nat_lt 65536 (length line.text) then Err (TooLong line.number) else says line.number (reading_of line.text)
+abbrev pub line_changes : ℕ → Line → Result (List Change) Refused
+line_changes n line = if nat_lt 65536 (length line.text) then Err (TooLong line.number) else says line.number (reading_of n line.text)
 
 -- one list of changes before the others
 abbrev pub before : List Change → Result (List Change) Refused → Result (List Change) Refused
@@ -34,9 +34,9 @@ abbrev pub then_changes : Result (List Change) Refused → Result (List Change) 
 then_changes (Err refused) others = Err refused
 then_changes (Ok front) others = before front others
 
-abbrev pub changes_in : List Line → Result (List Change) Refused
-changes_in [] = Ok []
-changes_in (line ∷ lines) = then_changes (line_changes line) (changes_in lines)
+abbrev pub changes_in : ℕ → List Line → Result (List Change) Refused
+changes_in n [] = Ok []
+changes_in n (line ∷ lines) = then_changes (line_changes n line) (changes_in n lines)
 
-abbrev pub changes_of : List ℕ → Result (List Change) Refused
-changes_of bytes = changes_in (lines_of bytes)
+abbrev pub changes_of : ℕ → List ℕ → Result (List Change) Refused
+changes_of n bytes = changes_in n (lines_of bytes)

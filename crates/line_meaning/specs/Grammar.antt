@@ -1,13 +1,14 @@
--- The grammar of data lines, on the characters of a line (N-Triples 1.1, section 7; the marks of changes, the case of tags and
--- what escapes may stand for are this project's own).
+-- The grammar of the lines of data file n, on the characters of a line (N-Triples 1.1, section 7; the marks of changes, the case of
+-- tags, what escapes may stand for and how files keep their labels apart are this project's own).
 use Rattle.std.specs.Prelude.{◌≡◌, ◌⊎◌, ℕ, Bool, true, List, [], ◌∷◌, ◌++◌, length, map, Some, encode_utf8_all}
 use Rattle.std.specs.Str.{IsUtf8, chars}
 use Rattle.rdf_meaning.specs.declared.text.KnownDatatype.TheVariants.{String}
 use Rattle.rdf_meaning.specs.Known.{known_bytes}
-use Rattle.rdf_meaning.specs.Terms.{RdfTerm, RdfTriple, iri, typed, tagged, blank, is_label_of, is_tag}
+use Rattle.rdf_meaning.specs.Terms.{RdfTerm, RdfTriple, iri, typed, tagged, is_label_of, is_tag}
 use Rattle.line_meaning.specs.declared.enclosure.Enclosure.{Enclosure}
 use Rattle.line_meaning.specs.declared.enclosure.Enclosure.TheVariants.{Iri, Text}
 use Rattle.line_meaning.specs.Characters.{is_blank, close_of, stands_raw, short_escape, hex_from, is_scalar, digits_of_mark, lower}
+use Rattle.line_meaning.specs.Labels.{blank_in}
 use Rattle.line_meaning.specs.Lines.{Reading, Nothing, Adds, Deletes}
 
 -- each character passes the test
@@ -62,12 +63,12 @@ pub record SpellsIri (written : List ℕ) (t : RdfTerm) : Type 0 where
   pub enclosed : Encloses Iri written text
   pub term : t ≡ iri text
 
--- `_:` and a label (BLANK_NODE_LABEL)
-pub record SpellsBlank (written : List ℕ) (t : RdfTerm) : Type 0 where
+-- `_:` and a label (BLANK_NODE_LABEL), which belongs to file n
+pub record SpellsBlank (n : ℕ) (written : List ℕ) (t : RdfTerm) : Type 0 where
   pub label : List ℕ
   pub fine : is_label_of label ≡ true
   pub whole : written ≡ 95 ∷ 58 ∷ label
-  pub term : t ≡ blank (encode_utf8_all label)
+  pub term : t ≡ blank_in n (encode_utf8_all label)
 
 -- a text alone, which has the type xsd:string
 pub record SpellsPlain (written : List ℕ) (t : RdfTerm) : Type 0 where
@@ -96,28 +97,28 @@ pub record SpellsTyped (written : List ℕ) (t : RdfTerm) : Type 0 where
   pub whole : written ≡ front ++ 94 ∷ 94 ∷ back
   pub term : t ≡ typed text datatype
 
-abbrev pub SpellsSubject : List ℕ → RdfTerm → Type 0
-SpellsSubject written t = SpellsIri written t ⊎ SpellsBlank written t
+abbrev pub SpellsSubject : ℕ → List ℕ → RdfTerm → Type 0
+SpellsSubject n written t = SpellsIri written t ⊎ SpellsBlank n written t
 
 abbrev pub SpellsLiteral : List ℕ → RdfTerm → Type 0
 SpellsLiteral written t = SpellsPlain written t ⊎ (SpellsTagged written t ⊎ SpellsTyped written t)
 
-abbrev pub SpellsObject : List ℕ → RdfTerm → Type 0
-SpellsObject written t = SpellsSubject written t ⊎ SpellsLiteral written t
+abbrev pub SpellsObject : ℕ → List ℕ → RdfTerm → Type 0
+SpellsObject n written t = SpellsSubject n written t ⊎ SpellsLiteral written t
 
 -- subject, predicate, object and a full stop, with or without blanks between them
-pub record SpellsTriple (written : List ℕ) (triple : RdfTriple) : Type 0 where
+pub record SpellsTriple (n : ℕ) (written : List ℕ) (triple : RdfTriple) : Type 0 where
   pub s : List ℕ
   pub after_s : List ℕ
   pub p : List ℕ
   pub after_p : List ℕ
   pub o : List ℕ
   pub after_o : List ℕ
-  pub subject : SpellsSubject s triple.s
+  pub subject : SpellsSubject n s triple.s
   pub after_s_blank : Each is_blank after_s
   pub predicate : SpellsIri p triple.p
   pub after_p_blank : Each is_blank after_p
-  pub object : SpellsObject o triple.o
+  pub object : SpellsObject n o triple.o
   pub after_o_blank : Each is_blank after_o
   pub whole : written ≡ s ++ (after_s ++ (p ++ (after_p ++ (o ++ (after_o ++ 46 ∷ [])))))
 
@@ -134,13 +135,13 @@ pub record SpellsNothing (written : List ℕ) : Type 0 where
   pub whole : written ≡ before ++ comment
 
 -- blanks, a mark, a triple, blanks and a comment
-pub record SpellsChange (mark written : List ℕ) (triple : RdfTriple) : Type 0 where
+pub record SpellsChange (n : ℕ) (mark written : List ℕ) (triple : RdfTriple) : Type 0 where
   pub before : List ℕ
   pub body : List ℕ
   pub after : List ℕ
   pub comment : List ℕ
   pub before_blank : Each is_blank before
-  pub spelled : SpellsTriple body triple
+  pub spelled : SpellsTriple n body triple
   pub after_blank : Each is_blank after
   pub is_comment : IsComment comment
   pub whole : written ≡ before ++ (mark ++ (body ++ (after ++ comment)))
@@ -154,15 +155,15 @@ pub record IsMark (letter : ℕ) (mark : List ℕ) : Type 0 where
   pub whole : mark ≡ letter ∷ first ∷ others
 
 -- a change behind a mark
-abbrev pub SpellsMarked : ℕ → List ℕ → RdfTriple → Type 0
-SpellsMarked letter written triple = (mark : List ℕ) × IsMark letter mark × SpellsChange mark written triple
+abbrev pub SpellsMarked : ℕ → ℕ → List ℕ → RdfTriple → Type 0
+SpellsMarked n letter written triple = (mark : List ℕ) × IsMark letter mark × SpellsChange n mark written triple
 
 -- what the characters of a line say
-abbrev pub CharactersRead : List ℕ → Reading → Type 0
-CharactersRead cs Nothing = SpellsNothing cs
-CharactersRead cs (Adds triple) = SpellsChange [] cs triple ⊎ SpellsMarked 65 cs triple
-CharactersRead cs (Deletes triple) = SpellsMarked 68 cs triple
+abbrev pub CharactersRead : ℕ → List ℕ → Reading → Type 0
+CharactersRead n cs Nothing = SpellsNothing cs
+CharactersRead n cs (Adds triple) = SpellsChange n [] cs triple ⊎ SpellsMarked n 65 cs triple
+CharactersRead n cs (Deletes triple) = SpellsMarked n 68 cs triple
 
--- what a line of bytes says: it is UTF-8, and its characters are in the grammar
-abbrev pub LineReads : List ℕ → Reading → Type 0
-LineReads line r = IsUtf8 line × CharactersRead (chars line) r
+-- what a line of bytes says in file n: it is UTF-8, and its characters are in the grammar
+abbrev pub LineReads : ℕ → List ℕ → Reading → Type 0
+LineReads n line r = IsUtf8 line × CharactersRead n (chars line) r

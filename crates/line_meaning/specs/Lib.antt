@@ -1,4 +1,5 @@
 pub mod Characters
+pub mod Labels
 pub mod Lines
 pub mod Grammar
 pub mod Reader

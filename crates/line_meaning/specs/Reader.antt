@@ -1,14 +1,15 @@
--- What a line says, found from its front.
+-- What a line of data file n says, found from its front.
 use Rattle.std.specs.Prelude.{ℕ, zero, suc, ◌+◌, Bool, true, false, List, [], ◌∷◌, ◌++◌, length, take, drop, Option, Some, None, ◌==◌, ◌||◌, if◌then◌else◌, option_map, map, reverse, nat_le, encode_utf8, encode_utf8_all}
 use Rattle.std.specs.List.{prefix_len}
 use Rattle.std.specs.Str.{is_utf8, chars}
 use Rattle.rdf_meaning.specs.declared.text.KnownDatatype.TheVariants.{String}
 use Rattle.rdf_meaning.specs.Known.{known_bytes}
 use Rattle.rdf_meaning.specs.Characters.{is_label_part}
-use Rattle.rdf_meaning.specs.Terms.{RdfTerm, RdfTriple, iri, typed, tagged, blank, is_label_of, is_tag}
+use Rattle.rdf_meaning.specs.Terms.{RdfTerm, RdfTriple, iri, typed, tagged, is_label_of, is_tag}
 use Rattle.line_meaning.specs.declared.enclosure.Enclosure.{Enclosure}
 use Rattle.line_meaning.specs.declared.enclosure.Enclosure.TheVariants.{Iri, Text}
 use Rattle.line_meaning.specs.Characters.{is_blank, close_of, stands_raw, short_escape, hex_from, is_scalar, digits_of_mark, is_tag_part, lower}
+use Rattle.line_meaning.specs.Labels.{blank_in}
 use Rattle.line_meaning.specs.Lines.{Reading, Nothing, Adds, Deletes}
 
 infixl 10 ◌>>=◌
@@ -89,20 +90,20 @@ label_run cs = without_last_dots (take (prefix_len is_label_or_dot cs) cs)
 unfoldable pub label_at : List ℕ → Option (List ℕ × List ℕ)
 label_at cs = if is_label_of (label_run cs) then Some (encode_utf8_all (label_run cs), drop (length (label_run cs)) cs) else None
 
-unfoldable pub blank_at : List ℕ → Option (RdfTerm × List ℕ)
-blank_at cs = do
+unfoldable pub blank_at : ℕ → List ℕ → Option (RdfTerm × List ℕ)
+blank_at n cs = do
   rest ← after_char 95 cs
   rest ← after_char 58 rest
   label ← label_at rest
-  Some (blank label.0, label.1)
+  Some (blank_in n label.0, label.1)
 
 -- whether this character stands in front
 abbrev pub starts : ℕ → List ℕ → Bool
 starts c [] = false
 starts c (d ∷ cs) = d == c
 
-unfoldable pub subject_at : List ℕ → Option (RdfTerm × List ℕ)
-subject_at cs = if starts 60 cs then iri_term_at cs else blank_at cs
+unfoldable pub subject_at : ℕ → List ℕ → Option (RdfTerm × List ℕ)
+subject_at n cs = if starts 60 cs then iri_term_at cs else blank_at n cs
 
 -- the longest text that may be a tag, in lower case
 abbrev pub tag_run : List ℕ → List ℕ
@@ -132,15 +133,15 @@ literal_at cs = do
   text ← text_at Text inner
   literal_of text.0 text.1
 
-unfoldable pub object_at : List ℕ → Option (RdfTerm × List ℕ)
-object_at cs = if starts 34 cs then literal_at cs else subject_at cs
+unfoldable pub object_at : ℕ → List ℕ → Option (RdfTerm × List ℕ)
+object_at n cs = if starts 34 cs then literal_at cs else subject_at n cs
 
 -- a triple with its full stop, and what follows
-unfoldable pub triple_at : List ℕ → Option (RdfTriple × List ℕ)
-triple_at cs = do
-  s ← subject_at cs
+unfoldable pub triple_at : ℕ → List ℕ → Option (RdfTriple × List ℕ)
+triple_at n cs = do
+  s ← subject_at n cs
   p ← iri_term_at (after_blanks s.1)
-  o ← object_at (after_blanks p.1)
+  o ← object_at n (after_blanks p.1)
   rest ← after_char 46 (after_blanks o.1)
   Some (record { s = s.0; p = p.0; o = o.0 }, rest)
 
@@ -150,27 +151,27 @@ is_end [] = true
 is_end (c ∷ cs) = c == 35
 
 -- a triple that goes to the end of the line
-unfoldable pub last_triple : List ℕ → Option RdfTriple
-last_triple cs = triple_at cs >>= λ x. if is_end (after_blanks x.1) then Some x.0 else None
+unfoldable pub last_triple : ℕ → List ℕ → Option RdfTriple
+last_triple n cs = triple_at n cs >>= λ x. if is_end (after_blanks x.1) then Some x.0 else None
 
 -- behind at least one blank
 unfoldable pub after_gap : List ℕ → Option (List ℕ)
 after_gap [] = None
 after_gap (c ∷ cs) = if is_blank c then Some (after_blanks cs) else None
 
-abbrev pub marked : (RdfTriple → Reading) → List ℕ → Option Reading
-marked says cs = option_map says (after_gap cs >>= last_triple)
+abbrev pub marked : ℕ → (RdfTriple → Reading) → List ℕ → Option Reading
+marked n says cs = option_map says (after_gap cs >>= last_triple n)
 
 -- what stands behind the first blanks of a line
-unfoldable pub content : List ℕ → Option Reading
-content [] = Some Nothing
-content (c ∷ cs) =
-    if c == 35 then Some Nothing else (if c == 65 then marked Adds cs else (if c == 68 then marked Deletes cs else option_map Adds (last_triple (c ∷ cs))))
+unfoldable pub content : ℕ → List ℕ → Option Reading
+content n [] = Some Nothing
+content n (c ∷ cs) =
+    if c == 35 then Some Nothing else (if c == 65 then marked n Adds cs else (if c == 68 then marked n Deletes cs else option_map Adds (last_triple n (c ∷ cs))))
 
 -- what the characters of a line say
-abbrev pub chars_reading : List ℕ → Option Reading
-chars_reading cs = content (after_blanks cs)
+abbrev pub chars_reading : ℕ → List ℕ → Option Reading
+chars_reading n cs = content n (after_blanks cs)
 
 -- what a line of bytes says
-unfoldable pub reading_of : List ℕ → Option Reading
-reading_of line = if is_utf8 line then chars_reading (chars line) else None
+unfoldable pub reading_of : ℕ → List ℕ → Option Reading
+reading_of n line = if is_utf8 line then chars_reading n (chars line) else None

@@ -1,4 +1,4 @@
-//! What data lines mean: how a text is cut into lines, what a line says, and which triples are present after them.
+//! What data lines mean: how a text is cut into lines, what a line of data file n says, and what a file changes.
 #![tactic(auto)]
 
 mod enclosure;

@@ -3,7 +3,7 @@ use Rattle.std.proofs.Common.{◌≡◌, ◌<◌, ℕ, inl, inr, Bool, true, fal
 use Rattle.std.specs.Prelude.{codes}
 use Rattle.std.specs.Cmp.{first_so, second_so}
 use Rattle.std.specs.List.{flat_map}
-use Rattle.std.specs.Str.{IsUtf8, IsAscii, chars, bytes_eq}
+use Rattle.std.specs.Str.{IsUtf8, chars, bytes_eq}
 use Rattle.std.proofs.lemmas.Bool.Decides.{nat_tests, Decides-eqb}
 use Rattle.std.proofs.lemmas.Slice.Eq.{bytes_eq-Decides}
 use Rattle.std.proofs.lemmas.Str.{IsUtf8-append, chars-append, chars-IsAscii, encodes-chars, IsUtf8-from_ascii}
@@ -12,18 +12,19 @@ use Rattle.rdf_meaning.specs.declared.kind.TermKind.TheVariants as kinds
 use Rattle.rdf_meaning.specs.declared.text.KnownDatatype.TheVariants.{String}
 use Rattle.rdf_meaning.specs.Known.{known_bytes}
 use Rattle.rdf_meaning.specs.Characters.{is_small_letter, is_digit}
-use Rattle.rdf_meaning.specs.Terms.{blank, typed, tagged, is_empty, is_label, is_label_of, is_tag, goes_on_as_tag, is_term, can_be_subject}
-use Rattle.rdf_meaning.specs.Spelling.{spelled_iri_byte, iri_spelling, spelled_text_byte, text_spelling, spelling_of_kind}
+use Rattle.rdf_meaning.specs.Terms.{typed, tagged, is_empty, is_label, is_label_of, is_tag, goes_on_as_tag, is_term, can_be_subject}
+use Rattle.rdf_meaning.specs.Spelling.{spelled_iri_byte, iri_spelling, spelled_text_byte, text_spelling, datatype_spelling, spelling_of_kind}
 use Rattle.line_meaning.specs.declared.enclosure.Enclosure.TheVariants.{Iri, Text}
 use Rattle.line_meaning.specs.Characters.{lower}
+use Rattle.line_meaning.specs.Labels.{blank_in}
 use Rattle.line_meaning.specs.Grammar.{Encloses, SpellsIri, SpellsBlank, SpellsTagged, SpellsSubject, SpellsLiteral, SpellsObject}
-use Rattle.line_spelling_laws.specs.RoundTrip.{ObjectsAreRead, SubjectsAreRead, PredicatesAreRead}
+use Rattle.line_spelling_laws.specs.RoundTrip.{of_kind_in, SpellingsAreUtf8, ObjectsAreRead, SubjectsAreRead, PredicatesAreRead}
 use Rattle.line_spelling_laws.proofs.Characters.{Small, small_ascii, spelled_utf8, spelled_chars, iri_small, iri_high, iri_spelled, text_small, text_high, text_spelled}
 
-one_utf8 : (c : ℕ) → c < 128 → IsUtf8 (c ∷ [])
+pub one_utf8 : (c : ℕ) → c < 128 → IsUtf8 (c ∷ [])
 one_utf8 c lt = IsUtf8-from_ascii (c ∷ []) (small_ascii (c ∷ []) (lt, tt))
 
-one_char : (c : ℕ) → c < 128 → chars (c ∷ []) ≡ c ∷ []
+pub one_char : (c : ℕ) → c < 128 → chars (c ∷ []) ≡ c ∷ []
 one_char c lt = chars-IsAscii (c ∷ []) (small_ascii (c ∷ []) (lt, tt))
 
 -- the characters of a text between two marks
@@ -67,15 +68,14 @@ label_fine : (text : List ℕ) → is_label text ≡ true → is_label_of (chars
 unfolding is_label
 label_fine text e = e
 
-blank_read : (text aux : List ℕ) → IsUtf8 text → (is_empty aux && is_label text) ≡ true
-    → SpellsBlank (chars (codes "_:" ++ text)) (record { kind = kinds.Blank; text = text; aux = aux })
-blank_read text aux u e = rw (empty_is aux (first_so (is_empty aux) (is_label text) e)) (record {
+blank_read : (n : ℕ) (text aux : List ℕ) → IsUtf8 text → (is_empty aux && is_label text) ≡ true → SpellsBlank n (chars (codes "_:" ++ text)) (blank_in n text)
+blank_read n text aux u e = record {
   label = chars text;
   fine = label_fine text (second_so (is_empty aux) (is_label text) e);
   whole = chars-append (95 ∷ 58 ∷ []) text marks_utf8
       ∙ ap (λ (t : List ℕ). t ++ chars text) (chars-IsAscii (95 ∷ 58 ∷ []) (small_ascii (95 ∷ 58 ∷ []) (lit< tt, (lit< tt, tt))));
-  term = ap (λ (t : List ℕ). blank t) (sym (encodes-chars text u));
-})
+  term = ap (λ (t : List ℕ). blank_in n t) (sym (encodes-chars text u));
+}
 
 -- a byte that a tag in lower case may have
 record IsLow (b : ℕ) : Type 0 where
@@ -164,19 +164,19 @@ typed_cases false text aux u v e = inr (inr (record {
   term = refl;
 }))
 
-object_read : (kind : TermKind) (text aux : List ℕ) → IsUtf8 text → IsUtf8 aux → is_term kind text aux ≡ true
-    → SpellsObject (chars (spelling_of_kind kind text aux)) (record { kind = kind; text = text; aux = aux })
-object_read kinds.Iri text aux u v e = inl (inl (iri_read text aux u e))
-object_read kinds.Blank text aux u v e = inl (inr (blank_read text aux u e))
-object_read kinds.Tagged text aux u v e = inr (inr (inl (tagged_read text aux u e)))
-object_read kinds.Typed text aux u v e = inr (typed_cases (bytes_eq aux (known_bytes String)) text aux u v refl)
+object_read : (n : ℕ) (kind : TermKind) (text aux : List ℕ) → IsUtf8 text → IsUtf8 aux → is_term kind text aux ≡ true
+    → SpellsObject n (chars (spelling_of_kind kind text aux)) (of_kind_in n kind (record { kind = kind; text = text; aux = aux }))
+object_read n kinds.Iri text aux u v e = inl (inl (iri_read text aux u e))
+object_read n kinds.Blank text aux u v e = inl (inr (blank_read n text aux u e))
+object_read n kinds.Tagged text aux u v e = inr (inr (inl (tagged_read text aux u e)))
+object_read n kinds.Typed text aux u v e = inr (typed_cases (bytes_eq aux (known_bytes String)) text aux u v refl)
 
-subject_read : (kind : TermKind) (text aux : List ℕ) → IsUtf8 text → is_term kind text aux ≡ true → can_be_subject kind ≡ true
-    → SpellsSubject (chars (spelling_of_kind kind text aux)) (record { kind = kind; text = text; aux = aux })
-subject_read kinds.Iri text aux u e k = inl (iri_read text aux u e)
-subject_read kinds.Blank text aux u e k = inr (blank_read text aux u e)
-subject_read kinds.Tagged text aux u e k = cc
-subject_read kinds.Typed text aux u e k = cc
+subject_read : (n : ℕ) (kind : TermKind) (text aux : List ℕ) → IsUtf8 text → is_term kind text aux ≡ true → can_be_subject kind ≡ true
+    → SpellsSubject n (chars (spelling_of_kind kind text aux)) (of_kind_in n kind (record { kind = kind; text = text; aux = aux }))
+subject_read n kinds.Iri text aux u e k = inl (iri_read text aux u e)
+subject_read n kinds.Blank text aux u e k = inr (blank_read n text aux u e)
+subject_read n kinds.Tagged text aux u e k = cc
+subject_read n kinds.Typed text aux u e k = cc
 
 predicate_read : (kind : TermKind) (text aux : List ℕ) → IsUtf8 text → is_term kind text aux ≡ true → kind ≡ kinds.Iri
     → SpellsIri (chars (spelling_of_kind kind text aux)) (record { kind = kind; text = text; aux = aux })
@@ -186,10 +186,31 @@ predicate_read kinds.Tagged text aux u e k = cc
 predicate_read kinds.Typed text aux u e k = cc
 
 pub objects : ObjectsAreRead
-objects t f = object_read t.kind t.text t.aux f.text_utf8 f.aux_utf8 f.form
+objects n t f = object_read n t.kind t.text t.aux f.text_utf8 f.aux_utf8 f.form
 
 pub subjects : SubjectsAreRead
-subjects t f k = subject_read t.kind t.text t.aux f.text_utf8 f.form k
+subjects n t f k = subject_read n t.kind t.text t.aux f.text_utf8 f.form k
 
 pub predicates : PredicatesAreRead
 predicates t f k = predicate_read t.kind t.text t.aux f.text_utf8 f.form k
+
+-- spellings are UTF-8
+iri_utf8 : (text : List ℕ) → IsUtf8 text → IsUtf8 (iri_spelling text)
+iri_utf8 text u =
+    IsUtf8-append (60 ∷ []) (flat_map spelled_iri_byte text ++ 62 ∷ []) (one_utf8 60 (lit< tt))
+    (IsUtf8-append (flat_map spelled_iri_byte text) (62 ∷ []) (spelled_utf8 spelled_iri_byte iri_small iri_high text u) (one_utf8 62 (lit< tt)))
+
+datatype_utf8 : (b : Bool) (aux : List ℕ) → IsUtf8 aux → IsUtf8 (cond b [] (codes "^^" ++ iri_spelling aux))
+datatype_utf8 true aux v = IsUtf8-from_ascii [] (small_ascii [] tt)
+datatype_utf8 false aux v = IsUtf8-append (94 ∷ 94 ∷ []) (iri_spelling aux) carets_utf8 (iri_utf8 aux v)
+
+kind_utf8 : (kind : TermKind) (text aux : List ℕ) → IsUtf8 text → IsUtf8 aux → IsUtf8 (spelling_of_kind kind text aux)
+kind_utf8 kinds.Iri text aux u v = iri_utf8 text u
+kind_utf8 kinds.Blank text aux u v = IsUtf8-append (95 ∷ 58 ∷ []) text marks_utf8 u
+kind_utf8 kinds.Tagged text aux u v =
+    IsUtf8-append (text_spelling text) (64 ∷ aux) (text_utf8 text u) (IsUtf8-append (64 ∷ []) aux (one_utf8 64 (lit< tt)) v)
+kind_utf8 kinds.Typed text aux u v =
+    IsUtf8-append (text_spelling text) (datatype_spelling aux) (text_utf8 text u) (datatype_utf8 (bytes_eq aux (known_bytes String)) aux v)
+
+pub utf8 : SpellingsAreUtf8
+utf8 t f = kind_utf8 t.kind t.text t.aux f.text_utf8 f.aux_utf8

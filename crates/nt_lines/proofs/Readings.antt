@@ -10,9 +10,9 @@ use Rattle.nt_lines.specs.declared.refusal.LineRefusal.{LineRefusal}
 use Rattle.nt_lines.specs.declared.refusal.LineRefusal.TheVariants.{NoMemory, Bad, TooLong}
 use Rattle.nt_lines.specs.Refusals.{Gives, IsReading}
 
-pub is_reading : {X : Type 0} (view : X → List Change) (result : Result X LineRefusal) (bytes : List ℕ) → ChangesAreRead → RefusalsAreFirst
-    → Gives view result (changes_of bytes) → IsReading view result (lines_of bytes)
-is_reading view (Ok x) bytes a f g = a bytes (view x) g
-is_reading view (Err NoMemory) bytes a f g = tt
-is_reading view (Err (Bad n)) bytes a f g = f bytes (refused.Bad n) g
-is_reading view (Err (TooLong n)) bytes a f g = f bytes (refused.TooLong n) g
+pub is_reading : {X : Type 0} (view : X → List Change) (result : Result X LineRefusal) (n : ℕ) (bytes : List ℕ) → ChangesAreRead → RefusalsAreFirst
+    → Gives view result (changes_of n bytes) → IsReading n view result (lines_of bytes)
+is_reading view (Ok x) n bytes a f g = a n bytes (view x) g
+is_reading view (Err NoMemory) n bytes a f g = tt
+is_reading view (Err (Bad number)) n bytes a f g = f n bytes (refused.Bad number) g
+is_reading view (Err (TooLong number)) n bytes a f g = f n bytes (refused.TooLong number) g

@@ -26,8 +26,8 @@ abbrev pub label_chars_at : List ℕ → Option (List ℕ × List ℕ)
 label_chars_at cs = if is_label_of (label_run cs) then Some (label_run cs, drop (length (label_run cs)) cs) else None
 
 -- the triple behind a mark
-abbrev pub marked_triple : List ℕ → Option RdfTriple
-marked_triple cs = after_gap cs >>= last_triple
+abbrev pub marked_triple : ℕ → List ℕ → Option RdfTriple
+marked_triple n cs = after_gap cs >>= last_triple n
 
 -- a term that may be a subject, or none
 abbrev pub HasSubject : Option (RdfTerm × Bor (List ℕ)) → Type 0

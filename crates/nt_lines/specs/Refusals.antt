@@ -38,12 +38,12 @@ abbrev pub lines_after : ℕ → Option (Bor (List ℕ) × ℕ) → List Line
 lines_after n None = []
 lines_after n (Some x) = lines_from (n + x.1) x.0.now
 
-abbrev pub RefusesFirst : LineRefusal → List Line → Type 0
-RefusesFirst NoMemory lines = Unit {0}
-RefusesFirst (Bad n) lines = FirstRefused lines (refused.Bad n)
-RefusesFirst (TooLong n) lines = FirstRefused lines (refused.TooLong n)
+abbrev pub RefusesFirst : ℕ → LineRefusal → List Line → Type 0
+RefusesFirst n NoMemory lines = Unit {0}
+RefusesFirst n (Bad number) lines = FirstRefused n lines (refused.Bad number)
+RefusesFirst n (TooLong number) lines = FirstRefused n lines (refused.TooLong number)
 
--- what was answered is what the lines read as in the grammar, or the first line that is refused, unless memory ran out
-abbrev pub IsReading : {X : Type 0} → (X → List Change) → Result X LineRefusal → List Line → Type 0
-IsReading view (Ok x) lines = LinesRead lines (view x)
-IsReading view (Err e) lines = RefusesFirst e lines
+-- what was answered is what the lines of file n read as in the grammar, or the first of them that is refused, unless memory ran out
+abbrev pub IsReading : {X : Type 0} → ℕ → (X → List Change) → Result X LineRefusal → List Line → Type 0
+IsReading n view (Ok x) lines = LinesRead n lines (view x)
+IsReading n view (Err e) lines = RefusesFirst n e lines

@@ -1,14 +1,16 @@
 //! Labels of blank nodes and language tags.
 
-ghost use Rattle.std.specs.Prelude.{◌≡◌, ◌≤◌, length, IfOk, IfSome, Some, None, map, string_bytes, encode_utf8_all, IsTrue, true};
+ghost use Rattle.std.specs.Prelude.{◌≡◌, ◌≤◌, ◌++◌, length, IfOk, OnOk, IfSome, Some, None, map, string_bytes, encode_utf8_all, IsTrue, true};
 ghost use Rattle.std.specs.List.{prefix_len};
 ghost use Rattle.std.specs.Str.{all_scalars};
 ghost use Rattle.rdf_meaning.specs.Characters.{is_between, is_label_part, is_label_start, is_base, is_name_mark};
 ghost use Rattle.rdf_meaning.specs.Terms.{is_label_of, goes_on_as_label, is_tag};
 ghost use Rattle.line_meaning.specs.Characters.{is_tag_part, lower};
+ghost use Rattle.line_meaning.specs.Labels.{label_in};
 ghost use Rattle.line_meaning.specs.Reader.{is_label_or_dot, without_last_dots};
 ghost use Rattle.nt_lines.specs.Fronts.{front_label, label_chars_at};
 
+use itoa::Buffer;
 use std::alloc::{AllocError, Global};
 
 fn is_between(low: char, high: char, c: char) -> bool
@@ -170,15 +172,39 @@ pub(crate) fn lower_text(alloc: Global, chars: &[char]) -> Result<String, AllocE
     Ok(text)
 }
 
+// Appends these characters.
+#[tactic(auto, using(crate::proofs::Texts::appended_next, crate::proofs::Texts::scalars_next))]
+fn push_chars(text: &mut String, chars: &[char]) -> Result<(), AllocError>
+    ensures bytes { OnOk result (string_bytes text.new ≡ string_bytes text.old ++ encode_utf8_all chars.now) }
+    ensures scalars { OnOk result (all_scalars chars.now ≡ true) }
+{
+    for c in chars {
+        text.push(*c)?;
+    }
+    Ok(())
+}
+
 /// The text of these characters.
-#[tactic(auto, using(crate::proofs::Texts::encoded_next, crate::proofs::Texts::scalars_next))]
 pub fn text_of_chars(alloc: Global, chars: &[char]) -> Result<String, AllocError>
     ensures bytes { IfOk result (λ text. string_bytes text ≡ encode_utf8_all chars.now) }
     ensures scalars { IfOk result (λ _. all_scalars chars.now ≡ true) }
 {
     let mut text = String::new(alloc);
-    for c in chars {
-        text.push(*c)?;
-    }
+    push_chars(&mut text, chars)?;
+    Ok(text)
+}
+
+/// The label that a label of this data file stands for.
+pub(crate) fn label_in(alloc: Global, file: u32, label: &[char]) -> Result<String, AllocError>
+    ensures bytes { IfOk result (λ text. string_bytes text ≡ label_in file (encode_utf8_all label.now)) }
+    ensures scalars { IfOk result (λ _. all_scalars label.now ≡ true) }
+{
+    let mut number = Buffer::new();
+    // `f`, at most ten digits and `b` stand before the label.
+    let mut text = String::with_capacity(alloc, label.len() + 12)?;
+    text.push('f')?;
+    text.push_str(number.format(file))?;
+    text.push('b')?;
+    push_chars(&mut text, label)?;
     Ok(text)
 }

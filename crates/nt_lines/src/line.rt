@@ -24,16 +24,20 @@ pub enum Said {
 
 // A triple with its full stop, and what follows.
 #[tactic(auto, unfolding(line_meaning::specs::Reader::triple_at))]
-fn triple_at(alloc: Global, chars: &[char]) -> Result<Option<(Triple, &[char])>, AllocError>
-    ensures { IfOk result (λ x. front_triple x ≡ triple_at chars.now) }
+fn triple_at(
+    alloc: Global,
+    file: u32,
+    chars: &[char],
+) -> Result<Option<(Triple, &[char])>, AllocError>
+    ensures { IfOk result (λ x. front_triple x ≡ triple_at file chars.now) }
 {
-    let Some((s, rest)) = subject_at(alloc, chars)? else {
+    let Some((s, rest)) = subject_at(alloc, file, chars)? else {
         return Ok(None);
     };
     let Some((p, rest)) = iri_term_at(alloc, after_blanks(rest))? else {
         return Ok(None);
     };
-    let Some((o, rest)) = object_at(alloc, after_blanks(rest))? else {
+    let Some((o, rest)) = object_at(alloc, file, after_blanks(rest))? else {
         return Ok(None);
     };
     let Some(rest) = after_char('.', after_blanks(rest)) else {
@@ -44,10 +48,10 @@ fn triple_at(alloc: Global, chars: &[char]) -> Result<Option<(Triple, &[char])>,
 
 // A triple that goes to the end of the line.
 #[tactic(auto, unfolding(line_meaning::specs::Reader::last_triple))]
-fn last_triple(alloc: Global, chars: &[char]) -> Result<Option<Triple>, AllocError>
-    ensures { IfOk result (λ triple. triple ≡ last_triple chars.now) }
+fn last_triple(alloc: Global, file: u32, chars: &[char]) -> Result<Option<Triple>, AllocError>
+    ensures { IfOk result (λ triple. triple ≡ last_triple file chars.now) }
 {
-    let Some((triple, rest)) = triple_at(alloc, chars)? else {
+    let Some((triple, rest)) = triple_at(alloc, file, chars)? else {
         return Ok(None);
     };
     if !is_end(after_blanks(rest)) {
@@ -70,11 +74,11 @@ fn after_gap(chars: &[char]) -> Option<&[char]>
 }
 
 // The triple behind a mark.
-fn marked(alloc: Global, chars: &[char]) -> Result<Option<Triple>, AllocError>
-    ensures { IfOk result (λ triple. triple ≡ marked_triple chars.now) }
+fn marked(alloc: Global, file: u32, chars: &[char]) -> Result<Option<Triple>, AllocError>
+    ensures { IfOk result (λ triple. triple ≡ marked_triple file chars.now) }
 {
     match after_gap(chars) {
-        Some(rest) => last_triple(alloc, rest),
+        Some(rest) => last_triple(alloc, file, rest),
         None => Ok(None),
     }
 }
@@ -99,17 +103,17 @@ fn delete(triple: Option<Triple>) -> Said
 
 // What stands behind the first blanks of a line.
 #[tactic(auto, unfolding(line_meaning::specs::Reader::content))]
-fn content(alloc: Global, chars: &[char]) -> Result<Said, AllocError>
-    ensures { IfOk result (λ said. reading said ≡ content chars.now) }
+fn content(alloc: Global, file: u32, chars: &[char]) -> Result<Said, AllocError>
+    ensures { IfOk result (λ said. reading said ≡ content file chars.now) }
 {
     let Some((first, rest)) = chars.split_first() else {
         return Ok(Said::Nothing);
     };
     match *first {
         '#' => Ok(Said::Nothing),
-        'A' => Ok(add(marked(alloc, rest)?)),
-        'D' => Ok(delete(marked(alloc, rest)?)),
-        _ => Ok(add(last_triple(alloc, chars)?)),
+        'A' => Ok(add(marked(alloc, file, rest)?)),
+        'D' => Ok(delete(marked(alloc, file, rest)?)),
+        _ => Ok(add(last_triple(alloc, file, chars)?)),
     }
 }
 
@@ -121,19 +125,19 @@ pub fn chars_of(alloc: Global, text: &str) -> Result<Vec<char>, AllocError>
     text.chars().collect(alloc)
 }
 
-fn read_text(alloc: Global, text: &str) -> Result<Said, AllocError>
-    ensures { IfOk result (λ said. reading said ≡ chars_reading (chars text.now)) }
+fn read_text(alloc: Global, file: u32, text: &str) -> Result<Said, AllocError>
+    ensures { IfOk result (λ said. reading said ≡ chars_reading file (chars text.now)) }
 {
     let characters = chars_of(alloc, text)?;
-    content(alloc, after_blanks(&characters))
+    content(alloc, file, after_blanks(&characters))
 }
 
-/// What a line says.
-pub(crate) fn read_line(alloc: Global, line: &[u8]) -> Result<Said, AllocError>
-    ensures { IfOk result (λ said. reading said ≡ reading_of line.now) }
+/// What a line of this data file says.
+pub(crate) fn read_line(alloc: Global, file: u32, line: &[u8]) -> Result<Said, AllocError>
+    ensures { IfOk result (λ said. reading said ≡ reading_of file line.now) }
 {
     match str::from_utf8(line) {
-        Ok(text) => read_text(alloc, text),
+        Ok(text) => read_text(alloc, file, text),
         Err(_) => Ok(Said::Bad),
     }
 }

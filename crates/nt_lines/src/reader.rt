@@ -1,4 +1,4 @@
-//! All lines of a text.
+//! All lines of a data file.
 
 ghost use Rattle.std.specs.Prelude.{◌≡◌, ◌∷◌, ◌<◌, ◌≤◌, ◌+◌, ℕ, IfSome, length, ◌==◌, if◌then◌else◌};
 ghost use Rattle.std.specs.List.{prefix_len};
@@ -51,17 +51,18 @@ pub fn split_line(bytes: &[u8]) -> (&[u8], Option<(&[u8], u64)>)
 // Adds what a line changes.
 fn add_line(
     alloc: Global,
+    file: u32,
     line: u64,
     text: &[u8],
     changes: &mut Vec<Change>,
 ) -> Result<(), LineRefusal>
     ensures { Gives (λ _. changes.new.items) result
-        (before changes.old.items (line_changes record { number = line; text = text.now })) }
+        (before changes.old.items (line_changes file record { number = line; text = text.now })) }
 {
     if text.len() > MAX_LINE {
         return Err(LineRefusal::TooLong { line });
     }
-    match read_line(alloc, text)? {
+    match read_line(alloc, file, text)? {
         Said::Nothing => {}
         Said::Change(change) => changes.push(change)?,
         Said::Bad => return Err(LineRefusal::Bad { line }),
@@ -70,15 +71,15 @@ fn add_line(
 }
 
 // Goes from line to line.
-fn read_lines(alloc: Global, bytes: &[u8]) -> Result<Vec<Change>, LineRefusal>
-    ensures { Gives (λ changes. changes.items) result (changes_of bytes.now) }
+fn read_lines(alloc: Global, bytes: &[u8], file: u32) -> Result<Vec<Change>, LineRefusal>
+    ensures { Gives (λ changes. changes.items) result (changes_of file bytes.now) }
 {
     let mut changes = Vec::new(alloc);
     let mut rest = bytes;
     let mut line = 1;
     'lines: loop {
         let (text, after) = split_line(rest);
-        add_line(alloc, line, text, &mut changes)?;
+        add_line(alloc, file, line, text, &mut changes)?;
         let Some((tail, rise)) = after else {
             return Ok(changes);
         };
@@ -87,13 +88,13 @@ fn read_lines(alloc: Global, bytes: &[u8]) -> Result<Vec<Change>, LineRefusal>
     }
 }
 
-/// The changes of all lines of a text, or its first line that is refused: `TooLong` where it has more
-/// than 65,536 bytes, else `Bad` where it is out of the grammar of data lines. `value` says so by
-/// the readings that are computed, and `grammar` by the grammar itself.
-pub fn read_changes(alloc: Global, bytes: &[u8]) -> Result<Vec<Change>, LineRefusal>
-    ensures value { Gives (λ changes. changes.items) result (changes_of bytes.now) }
-    ensures grammar { IsReading (λ changes. changes.items) result (lines_of bytes.now) }
+/// The changes of all lines of a data file, `file` being its number from 0, or its first line that is
+/// refused: `TooLong` where it has more than 65,536 bytes, else `Bad` where it is out of the grammar of
+/// data lines. `value` says so by the readings that are computed, and `grammar` by the grammar itself.
+pub fn read_changes(alloc: Global, bytes: &[u8], file: u32) -> Result<Vec<Change>, LineRefusal>
+    ensures value { Gives (λ changes. changes.items) result (changes_of file bytes.now) }
+    ensures grammar { IsReading file (λ changes. changes.items) result (lines_of bytes.now) }
 {
     lines_are_read();
-    read_lines(alloc, bytes)
+    read_lines(alloc, bytes, file)
 }

@@ -1,13 +1,14 @@
 //! Terms at the front of a line.
 
 ghost use Rattle.std.specs.Prelude.{◌≡◌, IfOk, IsTrue, encode_utf8_all};
-ghost use Rattle.rdf_meaning.specs.Terms.{is_label_of, is_tag, blank, iri, typed};
+ghost use Rattle.rdf_meaning.specs.Terms.{is_label_of, is_tag, iri, typed};
+ghost use Rattle.line_meaning.specs.Labels.{blank_in};
 ghost use Rattle.line_meaning.specs.Reader.{iri_at, iri_term_at, label_at, blank_at, subject_at, tagged_at, typed_at, literal_of, literal_at, object_at};
 ghost use Rattle.nt_lines.specs.Fronts.{front_term, front_text, HasSubject, HasPredicate};
 
 use crate::characters::{after_char, starts};
 use crate::enclosed::text_at;
-use crate::label::{count_tag_parts, is_tag, label_at, lower_text, text_of_chars};
+use crate::label::{count_tag_parts, is_tag, label_at, label_in, lower_text};
 use line_meaning::Enclosure;
 use rdf_meaning::{KnownDatatype, Term, TermKind, Text, text_of};
 use std::alloc::{AllocError, Global};
@@ -43,13 +44,13 @@ pub(crate) fn iri_term_at(
     Ok(Some((term, rest)))
 }
 
-// The blank node of a label.
+// The blank node that a label of this data file stands for.
 #[tactic(auto, using(crate::proofs::Texts::blank_is_term))]
-fn blank_of(alloc: Global, label: &[char]) -> Result<Term, AllocError>
+fn blank_of(alloc: Global, file: u32, label: &[char]) -> Result<Term, AllocError>
     requires { IsTrue (is_label_of label.now) }
-    ensures { IfOk result (λ term. term ≡ blank (encode_utf8_all label.now)) }
+    ensures { IfOk result (λ term. term ≡ blank_in file (encode_utf8_all label.now)) }
 {
-    let label = text_of_chars(alloc, label)?;
+    let label = label_in(alloc, file, label)?;
     Ok(Term {
         kind: TermKind::Blank,
         text: text_of(alloc, label.as_str())?,
@@ -58,8 +59,8 @@ fn blank_of(alloc: Global, label: &[char]) -> Result<Term, AllocError>
 }
 
 #[tactic(auto, unfolding(line_meaning::specs::Reader::blank_at, line_meaning::specs::Reader::label_at))]
-fn blank_at(alloc: Global, chars: &[char]) -> Result<Option<(Term, &[char])>, AllocError>
-    ensures value { IfOk result (λ x. front_term x ≡ blank_at chars.now) }
+fn blank_at(alloc: Global, file: u32, chars: &[char]) -> Result<Option<(Term, &[char])>, AllocError>
+    ensures value { IfOk result (λ x. front_term x ≡ blank_at file chars.now) }
     ensures subject { IfOk result HasSubject }
 {
     let Some(rest) = after_char('_', chars) else {
@@ -71,22 +72,23 @@ fn blank_at(alloc: Global, chars: &[char]) -> Result<Option<(Term, &[char])>, Al
     let Some((label, rest)) = label_at(rest) else {
         return Ok(None);
     };
-    Ok(Some((blank_of(alloc, label)?, rest)))
+    Ok(Some((blank_of(alloc, file, label)?, rest)))
 }
 
 /// A subject at the front.
 #[tactic(auto, unfolding(line_meaning::specs::Reader::subject_at))]
 pub(crate) fn subject_at(
     alloc: Global,
+    file: u32,
     chars: &[char],
 ) -> Result<Option<(Term, &[char])>, AllocError>
-    ensures value { IfOk result (λ x. front_term x ≡ subject_at chars.now) }
+    ensures value { IfOk result (λ x. front_term x ≡ subject_at file chars.now) }
     ensures subject { IfOk result HasSubject }
 {
     if starts('<', chars) {
         iri_term_at(alloc, chars)
     } else {
-        blank_at(alloc, chars)
+        blank_at(alloc, file, chars)
     }
 }
 
@@ -99,6 +101,19 @@ fn datatype_of(alloc: Global, iri: &str) -> Result<Text, AllocError>
         KnownDatatype::Integer,
         KnownDatatype::Decimal,
         KnownDatatype::Boolean,
+        KnownDatatype::DateTime,
+        KnownDatatype::Long,
+        KnownDatatype::Int,
+        KnownDatatype::Short,
+        KnownDatatype::Byte,
+        KnownDatatype::UnsignedLong,
+        KnownDatatype::UnsignedInt,
+        KnownDatatype::UnsignedShort,
+        KnownDatatype::UnsignedByte,
+        KnownDatatype::NonNegativeInteger,
+        KnownDatatype::PositiveInteger,
+        KnownDatatype::NonPositiveInteger,
+        KnownDatatype::NegativeInteger,
     ] {
         if known.iri() == iri {
             return Ok(Text::known(known));
@@ -197,13 +212,14 @@ fn literal_at(alloc: Global, chars: &[char]) -> Result<Option<(Term, &[char])>, 
 #[tactic(auto, unfolding(line_meaning::specs::Reader::object_at))]
 pub(crate) fn object_at(
     alloc: Global,
+    file: u32,
     chars: &[char],
 ) -> Result<Option<(Term, &[char])>, AllocError>
-    ensures { IfOk result (λ x. front_term x ≡ object_at chars.now) }
+    ensures { IfOk result (λ x. front_term x ≡ object_at file chars.now) }
 {
     if starts('"', chars) {
         literal_at(alloc, chars)
     } else {
-        subject_at(alloc, chars)
+        subject_at(alloc, file, chars)
     }
 }

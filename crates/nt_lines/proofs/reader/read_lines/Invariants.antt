@@ -5,7 +5,7 @@ use Rattle.nt_lines.proofs.reader.read_lines.Given as goal
 
 abbrev pub invariant-lines : goal.invariant-lines
 invariant-lines l =
-    (before l.changes.items (changes_in (lines_from l.line l.rest)) ≡ changes_in (lines_from 1 l.bytes))
+    (before l.changes.items (changes_in l.file (lines_from l.line l.rest)) ≡ changes_in l.file (lines_from 1 l.bytes))
     × (l.line + length l.rest ≤ length l.bytes + 1)
 
 abbrev pub decreases-lines : goal.decreases-lines

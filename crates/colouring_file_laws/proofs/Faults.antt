@@ -5,7 +5,7 @@ use Rattle.std.specs.Cmp.Lexicographic.{nat_list_eq_equiv}
 use Rattle.std.proofs.lemmas.Bool.Decides.{nat_tests}
 use Rattle.pred_columns.specs.declared.columns.ColourPair.{ColourPair}
 use Rattle.pred_columns.specs.Refusal.{same_text, fault_from, refusal_of}
-use Rattle.colouring_file_column_laws.specs.Pairs.{same_iri}
+use Rattle.colouring_file_laws.specs.Pairs.{same_iri}
 
 push-none : (x y : List ℕ) (seen : List (List ℕ)) → list_any (same_text x) seen ≡ false → same_text x y ≡ false → list_any (same_text x) (seen ++ y ∷ []) ≡ false
 push-none x y [] h e = rw e refl

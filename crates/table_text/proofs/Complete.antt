@@ -17,7 +17,7 @@ use Rattle.table_meaning.specs.IntLaws.{int_of-form, int_of-spelled}
 use Rattle.table_meaning.specs.Names.{is_name}
 use Rattle.table_meaning.specs.Schemas.{is_schema}
 use Rattle.table_meaning.specs.CellText.{is_held_cell}
-use Rattle.table_text_meaning.specs.TableText.{is_plain_column, is_plain_table, is_held_table, column_text, head_line, table_lines, tables_lines, is_spelled_set}
+use Rattle.table_text_meaning.specs.TableText.{is_plain_column, is_plain_table, is_held_table, column_text, head_line, table_lines, is_spelled_set}
 use Rattle.table_meaning.specs.Tables.{NamedTable, is_row, are_rows, has_table}
 use Rattle.table_text.specs.Reading.{◌>>=◌, before, with_head, with_row, head_of, cells_of, fields_of, begins_table, step}
 use Rattle.table_text.proofs.TextLaws.{bind_some}
@@ -135,21 +135,16 @@ tables_run done (t ∷ more) set =
     ∙ ap (λ o. o >>= (λ next. run next (flat_map table_lines more))) (table_run done more t set)
     ∙ tables_run (done ++ t ∷ []) more again ∙ ap (λ (ts : List NamedTable). Some ts) (append_assoc done (t ∷ []) more)
 
-abbrev others : List (List ℕ) → List (List ℕ)
-others [] = []
-others (line ∷ lines) = lines
-
 -- a line that goes on with tables as a further one does is read so
-pub step_complete : (tables new : List NamedTable) (line : List ℕ) → is_spelled_set tables ≡ true → is_spelled_set new ≡ true → tables_lines new ≡ tables_lines tables ++ line ∷ [] → step tables line ≡ Some new
+pub step_complete : (tables new : List NamedTable) (line : List ℕ) → is_spelled_set tables ≡ true → is_spelled_set new ≡ true → flat_map table_lines new ≡ flat_map table_lines tables ++ line ∷ [] → step tables line ≡ Some new
 step_complete tables new line set set' lines =
     let whole : run [] (flat_map table_lines new) ≡ Some new = tables_run [] new set' in
     let front : run [] (flat_map table_lines tables) ≡ Some tables = tables_run [] tables set in
-    let split : flat_map table_lines new ≡ flat_map table_lines tables ++ line ∷ [] = ap others lines in
     let both : (step tables line >>= (λ t. Some t)) ≡ Some new =
-    ap (λ o. o >>= (λ t. run t (line ∷ []))) (sym front) ∙ sym (run-append [] (flat_map table_lines tables) (line ∷ [])) ∙ ap (run []) (sym split) ∙ whole in
+    ap (λ o. o >>= (λ t. run t (line ∷ []))) (sym front) ∙ sym (run-append [] (flat_map table_lines tables) (line ∷ [])) ∙ ap (run []) (sym lines) ∙ whole in
     let x = bind_some (step tables line) (λ t. Some t) new both in
     x.1 ∙ x.2
 
 -- one list of tables has these lines
-pub one_reading : (a b : List NamedTable) → is_spelled_set a ≡ true → is_spelled_set b ≡ true → tables_lines a ≡ tables_lines b → Some a ≡ Some b
-one_reading a b set set' same = sym (tables_run [] a set) ∙ ap (run []) (ap others same) ∙ tables_run [] b set'
+pub one_reading : (a b : List NamedTable) → is_spelled_set a ≡ true → is_spelled_set b ≡ true → flat_map table_lines a ≡ flat_map table_lines b → Some a ≡ Some b
+one_reading a b set set' same = sym (tables_run [] a set) ∙ ap (run []) same ∙ tables_run [] b set'

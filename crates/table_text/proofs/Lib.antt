@@ -15,3 +15,4 @@ pub mod Written
 pub mod LineLaws
 pub mod OneOutcome
 pub mod HeldCells
+pub mod Meant

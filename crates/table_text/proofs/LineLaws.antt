@@ -17,7 +17,10 @@ use Rattle.table_meaning.specs.CellText.{cell_text, row_line, tabbed, after_tab,
 use Rattle.table_meaning.specs.Ints.{int_of}
 use Rattle.table_meaning.specs.Names.{is_name}
 use Rattle.table_meaning.specs.CellText.{is_held_cell}
-use Rattle.table_text_meaning.specs.TableText.{is_plain_column, is_plain_table, is_held_table, kind_mark, column_text, head_line, table_lines, tables_lines, table_text, sql_line, lines_of, is_spelled_set, BeginTables, TablesRead}
+use Rattle.table_text_meaning.specs.TableText.{is_plain_column, is_plain_table, is_held_table, kind_mark, column_text, head_line, table_lines, tables_lines, text_in, sql_line, lines_of, is_spelled_set, BeginTables, TablesRead}
+use Rattle.table_text_meaning.specs.declared.version.Version.{Version}
+use Rattle.table_text_meaning.specs.declared.version.Version.TheVariants.{First, Second}
+use Rattle.table_text_meaning.specs.Versions.{version_line}
 use Rattle.table_meaning.specs.Tables.{NamedTable}
 use Rattle.table_text.specs.Reading.{◌>>=◌, before, is_other, is_line, with_row, with_cells, cells_of, cell_of, text_of, fields_of, step}
 use Rattle.table_text.proofs.CellLaws.{feed_stops, cell_other, name_other}
@@ -85,8 +88,9 @@ tables_clean (t ∷ tables) h k =
     let others = tables_clean tables (second_so (is_plain_table t) _ h) (second_so (is_held_table t) _ k) in
     list_all-append is_line (table_lines t) (flat_map table_lines tables) ∙ rw (table, others) refl
 
-pub lines_clean : (tables : List NamedTable) → is_spelled_set tables ≡ true → list_all is_line (tables_lines tables) ≡ true
-lines_clean tables set = let f = fit_of tables set in tables_clean tables f.plain f.held
+pub lines_clean : (version : Version) (tables : List NamedTable) → is_spelled_set tables ≡ true → list_all is_line (tables_lines version tables) ≡ true
+lines_clean First tables set = let f = fit_of tables set in tables_clean tables f.plain f.held
+lines_clean Second tables set = let f = fit_of tables set in tables_clean tables f.plain f.held
 
 -- no tables go on with the line that ends them
 
@@ -115,15 +119,15 @@ never_sql tables new front back h =
     cc
 
 -- lines that go on with tables are the next of their lines
-pub front_goes : (tables new : List NamedTable) (lines : List (List ℕ)) → is_spelled_set tables ≡ true → run tables lines ≡ Some new → (is_spelled_set new ≡ true) × (tables_lines new ≡ tables_lines tables ++ lines)
+pub front_goes : (tables new : List NamedTable) (lines : List (List ℕ)) → is_spelled_set tables ≡ true → run tables lines ≡ Some new → (is_spelled_set new ≡ true) × (flat_map table_lines new ≡ flat_map table_lines tables ++ lines)
 front_goes tables new [] set h =
     let same : tables ≡ new = same_Some tables new h in
-    (ap is_spelled_set (sym same) ∙ set, ap tables_lines (sym same) ∙ sym (append-nil (tables_lines tables)))
+    (ap is_spelled_set (sym same) ∙ set, ap (flat_map table_lines) (sym same) ∙ sym (append-nil (flat_map table_lines tables)))
 front_goes tables new (line ∷ lines) set h =
     let x = bind_some (step tables line) (λ t. run t lines) new h in
     let g = step_goes tables x.0 line set x.1 in
     let r = front_goes x.0 new lines g.0 x.2 in
-    (r.0, r.1 ∙ ap (λ (ls : List (List ℕ)). ls ++ lines) g.1 ∙ append_assoc (tables_lines tables) (line ∷ []) lines)
+    (r.0, r.1 ∙ ap (λ (ls : List (List ℕ)). ls ++ lines) g.1 ∙ append_assoc (flat_map table_lines tables) (line ∷ []) lines)
 
 abbrev tail_of : List (List ℕ) → List (List ℕ)
 tail_of [] = []
@@ -134,22 +138,22 @@ top_of [] = []
 top_of (line ∷ lines) = line
 
 -- the first lines of tables are those of tables
-pub begins_front : (tables : List NamedTable) (front back : List (List ℕ)) → is_spelled_set tables ≡ true → tables_lines tables ≡ front ++ back → BeginTables front
-begins_front tables [] back set e = inl refl
-begins_front tables (line ∷ front) back set e =
+pub begins_front : (version : Version) (tables : List NamedTable) (front back : List (List ℕ)) → is_spelled_set tables ≡ true → tables_lines version tables ≡ front ++ back → BeginTables front
+begins_front version tables [] back set e = inl refl
+begins_front version tables (line ∷ front) back set e =
     let whole : run [] (front ++ back) ≡ Some tables = ap (run []) (sym (ap tail_of e)) ∙ tables_run [] tables set in
     let x = bind_some (run [] front) (λ t. run t back) tables (sym (run-append [] front back) ∙ whole) in
     let g = front_goes [] x.0 front refl x.1 in
-    inr (x.0, g.0, ap (λ (l : List ℕ). l ∷ front) (sym (ap top_of e)) ∙ sym g.1)
+    inr (version, x.0, g.0, ap (λ (l : List ℕ). l ∷ front) (sym (ap top_of e)) ∙ ap (λ (ls : List (List ℕ)). version_line version ∷ ls) (sym g.1))
 
 -- the lines of a text that is read
-pub read_lines : (bytes : List ℕ) (tables : List NamedTable) (at : ℕ) → TablesRead bytes tables at → lines_of bytes ≡ tables_lines tables ++ sql_line ∷ lines_of (drop at bytes)
+pub read_lines : (bytes : List ℕ) (tables : List NamedTable) (at : ℕ) (r : TablesRead bytes tables at) → lines_of bytes ≡ tables_lines r.version r.written ++ sql_line ∷ lines_of (drop at bytes)
 read_lines bytes tables at r =
     let rest : List ℕ = drop at bytes in
-    let whole : bytes ≡ table_text tables ++ (ended sql_line ++ rest) =
-    sym (take-append-drop at bytes) ∙ ap (λ (z : List ℕ). z ++ rest) r.text ∙ append_assoc (table_text tables) (ended sql_line) rest in
-    ap lines_of whole ∙ cut_lines (tables_lines tables) (ended sql_line ++ rest) (lines_clean tables r.spelled)
-    ∙ ap (λ (ls : List (List ℕ)). tables_lines tables ++ ls) (lines_of-ended sql_line rest refl)
+    let whole : bytes ≡ text_in r.version r.written ++ (ended sql_line ++ rest) =
+    sym (take-append-drop at bytes) ∙ ap (λ (z : List ℕ). z ++ rest) r.text ∙ append_assoc (text_in r.version r.written) (ended sql_line) rest in
+    ap lines_of whole ∙ cut_lines (tables_lines r.version r.written) (ended sql_line ++ rest) (lines_clean r.version r.written r.spelled)
+    ∙ ap (λ (ls : List (List ℕ)). tables_lines r.version r.written ++ ls) (lines_of-ended sql_line rest refl)
 
 -- tables up to the line that ends them
 abbrev pub walk : List NamedTable → List (List ℕ) → Option (List NamedTable)

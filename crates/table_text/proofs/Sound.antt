@@ -13,7 +13,7 @@ use Rattle.table_meaning.specs.declared.schema.Column.{Column}
 use Rattle.table_meaning.specs.CellText.{row_line, tabbed}
 use Rattle.table_meaning.specs.Schemas.{is_schema, are_distinct}
 use Rattle.table_meaning.specs.CellText.{is_held_cell}
-use Rattle.table_text_meaning.specs.TableText.{is_plain_table, is_held_table, column_text, head_line, table_lines, tables_lines, first_line, is_spelled_set}
+use Rattle.table_text_meaning.specs.TableText.{is_plain_table, is_held_table, column_text, head_line, table_lines, is_spelled_set}
 use Rattle.table_meaning.specs.TableLaws.{is_table_set-push}
 use Rattle.table_meaning.specs.Tables.{NamedTable, is_row, are_rows, is_table, is_table_set, table_name, has_table}
 use Rattle.table_text.specs.Reading.{with_head, with_cells, with_row, head_of, cells_of, fields_of, begins_table, step}
@@ -89,7 +89,7 @@ row_goes (t ∷ u ∷ tables) new line f h =
 
 -- what a further line makes is spelled, and the line is the last of its lines
 abbrev pub Goes : List NamedTable → List NamedTable → List ℕ → Type 0
-Goes tables new line = (is_spelled_set new ≡ true) × (tables_lines new ≡ tables_lines tables ++ line ∷ [])
+Goes tables new line = (is_spelled_set new ≡ true) × (flat_map table_lines new ≡ flat_map table_lines tables ++ line ∷ [])
 
 row_step : (tables new : List NamedTable) (line : List ℕ) → is_spelled_set tables ≡ true → with_row tables line ≡ Some new → Goes tables new line
 row_step tables new line set h =
@@ -97,7 +97,7 @@ row_step tables new line set h =
     let names : are_distinct (map table_name new) ≡ true = ap are_distinct g.names ∙ first_so _ _ (first_so _ _ set) in
     let fits = g.fit.fit in
     let is_set : is_table_set new ≡ true = rw (names, fits) refl in
-    (spelled_of new is_set g.fit, ap (λ (ls : List (List ℕ)). first_line ∷ ls) g.lines)
+    (spelled_of new is_set g.fit, g.lines)
 
 taken_else : {X : Type 0} (b : Bool) (x y : X) → cond b None (Some x) ≡ Some y → (b ≡ false) × (x ≡ y)
 taken_else true x y h = cc
@@ -133,7 +133,7 @@ head_step tables new line set begins h = by (head_of (drop 6 line)) refl h
         } in
         subst (λ (n : List NamedTable). Goes tables n line) taken.1 (
           spelled_of (tables ++ t ∷ []) is_set all,
-          ap (λ (ls : List (List ℕ)). first_line ∷ ls) (flat_map-append table_lines tables (t ∷ []) ∙ ap (λ (l : List ℕ). flat_map table_lines tables ++ l ∷ []) (sym (head_text line name columns begins s.0))),
+          flat_map-append table_lines tables (t ∷ []) ∙ ap (λ (l : List ℕ). flat_map table_lines tables ++ l ∷ []) (sym (head_text line name columns begins s.0)),
         )
 
 pub step_goes : (tables new : List NamedTable) (line : List ℕ) → is_spelled_set tables ≡ true → step tables line ≡ Some new → Goes tables new line

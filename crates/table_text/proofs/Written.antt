@@ -11,7 +11,9 @@ use Rattle.std.proofs.lemmas.Option.{unwrap_or-slice_get}
 use Rattle.table_meaning.specs.declared.cell.Cell.{Cell}
 use Rattle.table_meaning.specs.declared.cell.Cell.TheVariants.{Null}
 use Rattle.table_meaning.specs.CellText.{cell_text, ended, row_line, tabbed, after_tab}
-use Rattle.table_text_meaning.specs.TableText.{table_lines, table_text, text_of_lines, head_line, first_line}
+use Rattle.table_text_meaning.specs.TableText.{table_lines, table_text, text_of_lines, head_line}
+use Rattle.table_text_meaning.specs.declared.version.Version.TheVariants.{Second}
+use Rattle.table_text_meaning.specs.Versions.{version_line}
 use Rattle.table_meaning.specs.TableLaws.{is_row-length, list_all-get}
 use Rattle.table_meaning.specs.Tables.{NamedTable, no_table, table_at, row_at, is_row, is_table, is_table_set}
 use Rattle.rel_cells.specs.Fronts.{KeepsFront, kept_append, kept_on}
@@ -116,9 +118,9 @@ lines-tables (t ∷ tables) =
     ∙ ap (λ (a : List ℕ). table_part t ++ a) (lines-tables tables)
 
 -- all tables are written
-pub whole_text : (tables : List NamedTable) → is_table_set tables ≡ true → ended first_line ++ tables_front tables (length tables) ≡ table_text tables
+pub whole_text : (tables : List NamedTable) → is_table_set tables ≡ true → ended (version_line Second) ++ tables_front tables (length tables) ≡ table_text tables
 whole_text tables set =
-    ap (λ (t : List ℕ). ended first_line ++ t) (tables_front-is tables (length tables) (second_so _ _ set) (omega arith) ∙ ap (flat_map table_part) (take-length tables) ∙ sym (lines-tables tables))
+    ap (λ (t : List ℕ). ended (version_line Second) ++ t) (tables_front-is tables (length tables) (second_so _ _ set) (omega arith) ∙ ap (flat_map table_part) (take-length tables) ∙ sym (lines-tables tables))
 
 -- a loop that writes begins with nothing written
 pub started : (old now line front : List ℕ) → now ≡ old ++ line → front ≡ [] → (now ≡ old ++ (line ++ front)) × KeepsFront old now

@@ -11,6 +11,8 @@ use Rattle.table_meaning.specs.declared.schema.Column.{Column}
 use Rattle.table_meaning.specs.Ints.{int_of}
 use Rattle.table_meaning.specs.Names.{is_name}
 use Rattle.table_meaning.specs.Schemas.{is_schema}
+use Rattle.table_text_meaning.specs.declared.version.Version.{Version}
+use Rattle.table_text_meaning.specs.declared.version.Version.TheVariants.{First, Second}
 use Rattle.table_text_meaning.specs.TableText.{onto_first}
 use Rattle.table_meaning.specs.Tables.{NamedTable, has_table}
 
@@ -105,6 +107,10 @@ head_in (name ∷ fields) = name_of name >>= (λ n. schema_of fields >>= (λ col
 
 unfoldable pub head_of : List ℕ → Option (List ℕ × List Column)
 head_of rest = head_in (fields_of rest)
+
+-- the version that a first line names
+abbrev pub version_of : List ℕ → Option Version
+version_of line = if bytes_eq line (codes "tables 2") then Some Second else (if bytes_eq line (codes "tables 1") then Some First else None)
 
 -- no line feed stands in it
 abbrev pub is_line : List ℕ → Bool

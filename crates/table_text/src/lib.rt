@@ -3,12 +3,14 @@
 
 mod fields;
 mod heads;
+mod labels;
 mod laws;
 mod lines;
 mod names;
 mod quoted;
 mod refusal;
 mod rows;
+mod table;
 mod tables;
 mod writer;
 

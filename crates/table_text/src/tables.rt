@@ -1,42 +1,28 @@
 //! Tables, read from their text.
 
 ghost use Rattle.std.specs.Prelude.{◌≡◌, ◌++◌, [], ℕ, map, IfOk, IsTrue, Err, MatchOption};
-ghost use Rattle.table_text_meaning.specs.TableText.{TablesRead, IsFirstBadLine, table_text};
+ghost use Rattle.table_text_meaning.specs.TableText.{TablesRead, IsFirstBadLine, text_in};
+ghost use Rattle.table_text_meaning.specs.Versions.{tables_meant};
 ghost use Rattle.table_meaning.specs.Tables.{is_table_set, table_name};
-ghost use Rattle.table_text.specs.Reading.{head_of, with_head, with_row, step, Stepped};
+ghost use Rattle.table_text.specs.Reading.{head_of, with_head, with_row, step, version_of, Stepped};
 ghost use Rattle.std.specs.Bool.{OnTrue};
 
 use crate::heads::read_head;
+use crate::labels::with_labels;
 use crate::lines::split_line;
 use crate::names::Names;
 use crate::refusal::TableRefusal;
 use crate::rows::read_row;
-use rdf_meaning::Text;
-use rel_cells::{MemTables, Row, RowList, Schema};
+use crate::table::Table;
+use rel_cells::{MemTables, RowList};
 use std::alloc::{AllocError, Global};
-use std::marker::Model;
+use table_text_meaning::Version;
 
 /// Tables, and where the SQL begins behind them, counted in bytes from 0.
 #[derive(Debug, Drop)]
 pub struct ReadTables {
     pub tables: MemTables,
     pub sql_at: usize,
-}
-
-// A table, whose rows go on.
-#[derive(Drop)]
-struct Table {
-    name: Text,
-    schema: Schema,
-    rows: Vec<Row>,
-}
-
-impl Model for Table {
-    ghost use Rattle.table_meaning.specs.Tables.{NamedTable};
-
-    ghost Value = { NamedTable };
-
-    ghost view = { λ t. record { name = t.name; schema = t.schema; rows = t.rows.items } };
 }
 
 // Adds a table, whose head goes on so behind `table` and a tab; false where it is no head, or its name isn't new.
@@ -114,15 +100,41 @@ fn as_set(alloc: Global, tables: Vec<Table>) -> Result<MemTables, AllocError>
     Ok(set)
 }
 
-// What follows the first line, which is always the same one.
-fn after_first_line(bytes: &[u8]) -> Option<&[u8]>
-    ensures cases { MatchOption result (IsFirstBadLine bytes.now 1) (λ rest. bytes.now ≡ table_text [] ++ rest.now) }
+// The version that a first line names.
+fn version_of(line: &[u8]) -> Option<Version>
+    ensures { result ≡ version_of line.now }
 {
-    let (line, rest) = split_line(bytes)?;
-    if line == b"tables 1".as_slice() {
-        Some(rest)
+    if line == b"tables 2".as_slice() {
+        Some(Version::Second)
+    } else if line == b"tables 1".as_slice() {
+        Some(Version::First)
     } else {
         None
+    }
+}
+
+// The version that the first line names, and what follows that line.
+fn after_first_line(bytes: &[u8]) -> Option<(Version, &[u8])>
+    ensures cases { MatchOption result (IsFirstBadLine bytes.now 1) (λ x. bytes.now ≡ text_in x.0 [] ++ x.1.now) }
+{
+    let (line, rest) = split_line(bytes)?;
+    let Some(version) = version_of(line) else {
+        return None;
+    };
+    Some((version, rest))
+}
+
+// The tables that are meant where these are written.
+fn tables_meant(
+    alloc: Global,
+    version: Version,
+    written: Vec<Table>,
+) -> Result<Vec<Table>, AllocError>
+    ensures { IfOk result (λ tables. tables.items ≡ tables_meant version written.items) }
+{
+    match version {
+        Version::First => with_labels(alloc, written),
+        Version::Second => Ok(written),
     }
 }
 
@@ -134,7 +146,7 @@ pub fn read_tables(alloc: Global, bytes: &[u8]) -> Result<ReadTables, TableRefus
 {
     let mut tables = Vec::new(alloc);
     let mut names = Names::new(alloc);
-    let Some(mut rest) = after_first_line(bytes) else {
+    let Some((version, mut rest)) = after_first_line(bytes) else {
         return Err(TableRefusal::Bad { line: 1 });
     };
     let mut line = 2;
@@ -143,8 +155,9 @@ pub fn read_tables(alloc: Global, bytes: &[u8]) -> Result<ReadTables, TableRefus
             return Err(TableRefusal::Bad { line });
         };
         if text == b"-- sql".as_slice() {
+            let meant = tables_meant(alloc, version, tables)?;
             return Ok(ReadTables {
-                tables: as_set(alloc, tables)?,
+                tables: as_set(alloc, meant)?,
                 sql_at: bytes.len() - after.len(),
             });
         }

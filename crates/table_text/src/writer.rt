@@ -120,7 +120,7 @@ fn write_all<T: TableSet>(tables: &T, into: &mut Vec<u8>) -> Result<(), AllocErr
     ensures set { OnOk result (IsTrue (is_table_set (T.named_tables tables.now))) }
     ensures held { OnOk result (IsTrue (list_all is_held_table (T.named_tables tables.now))) }
 {
-    into.extend_from_slice(b"tables 1\n")?;
+    into.extend_from_slice(b"tables 2\n")?;
     for t in 0..tables.tables() {
         write_table(tables, t, into)?;
     }

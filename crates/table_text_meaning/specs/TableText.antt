@@ -1,20 +1,15 @@
 -- Tables as text (this project's own).
 use Rattle.std.specs.Prelude.{◌≡◌, ℕ, ◌+◌, ◌-◌, ◌≤◌, Bool, true, false, ◌&&◌, ◌==◌, if◌then◌else◌, ◌⊎◌, List, [], ◌∷◌, ◌++◌, map, length, take, codes, IsTrue}
 use Rattle.std.specs.List.{flat_map, list_all}
-use Rattle.std.specs.Str.{is_utf8}
 use Rattle.table_meaning.specs.declared.kind.Kind.{Kind}
 use Rattle.table_meaning.specs.declared.kind.Kind.TheVariants as kinds
-use Rattle.table_meaning.specs.declared.cell.Cell.{Cell}
-use Rattle.table_meaning.specs.declared.cell.Cell.TheVariants.{Null, Int, Text, Truth}
 use Rattle.table_meaning.specs.declared.schema.Column.{Column}
 use Rattle.table_meaning.specs.Names.{is_name}
-use Rattle.table_meaning.specs.Ints.{is_wide_int}
 use Rattle.table_meaning.specs.Tables.{NamedTable, is_table_set}
 use Rattle.table_meaning.specs.CellText.{is_held_cell, tabbed, ended, row_line}
-
--- the first line
-abbrev pub first_line : List ℕ
-first_line = codes "tables 1"
+use Rattle.table_text_meaning.specs.declared.version.Version.{Version}
+use Rattle.table_text_meaning.specs.declared.version.Version.TheVariants.{Second}
+use Rattle.table_text_meaning.specs.Versions.{version_line, tables_meant}
 
 -- the line that ends the tables
 abbrev pub sql_line : List ℕ
@@ -37,16 +32,20 @@ head_line name columns = tabbed (codes "table" ∷ name ∷ map column_text colu
 abbrev pub table_lines : NamedTable → List (List ℕ)
 table_lines table = head_line table.name table.schema ∷ map row_line table.rows
 
-abbrev pub tables_lines : List NamedTable → List (List ℕ)
-tables_lines tables = first_line ∷ flat_map table_lines tables
+abbrev pub tables_lines : Version → List NamedTable → List (List ℕ)
+tables_lines version tables = version_line version ∷ flat_map table_lines tables
 
 -- lines, each with its end
 abbrev pub text_of_lines : List (List ℕ) → List ℕ
 text_of_lines lines = flat_map ended lines
 
 -- the lines before the one that ends the tables
+abbrev pub text_in : Version → List NamedTable → List ℕ
+text_in version tables = text_of_lines (tables_lines version tables)
+
+-- the text that is written
 abbrev pub table_text : List NamedTable → List ℕ
-table_text tables = text_of_lines (tables_lines tables)
+table_text tables = text_in Second tables
 
 abbrev pub is_truth : Kind → Bool
 is_truth kinds.Int = false
@@ -68,12 +67,15 @@ is_held_table table = list_all (list_all is_held_cell) table.rows
 abbrev pub is_spelled_set : List NamedTable → Bool
 is_spelled_set tables = is_table_set tables && (list_all is_plain_table tables && list_all is_held_table tables)
 
--- The bytes begin with the text of these tables and the line that ends it, and the SQL begins at this place.
--- Each name, number and text has one spelling, so one list of tables at most is read.
+-- The bytes begin with the text of tables in a version and the line that ends it, the SQL begins at this place, and these are the tables
+-- that are meant. Each name, number and text has one spelling, so one list of tables at most is read.
 pub record TablesRead (bytes : List ℕ) (tables : List NamedTable) (at : ℕ) : Type 0 where
-  pub spelled : IsTrue (is_spelled_set tables)
-  pub place : at ≡ length (table_text tables ++ ended sql_line)
-  pub text : take at bytes ≡ table_text tables ++ ended sql_line
+  pub version : Version
+  pub written : List NamedTable
+  pub spelled : IsTrue (is_spelled_set written)
+  pub place : at ≡ length (text_in version written ++ ended sql_line)
+  pub text : take at bytes ≡ text_in version written ++ ended sql_line
+  pub meant : tables ≡ tables_meant version written
 
 -- a byte before the first line
 abbrev pub onto_first : ℕ → List (List ℕ) → List (List ℕ)
@@ -85,13 +87,13 @@ abbrev pub lines_of : List ℕ → List (List ℕ)
 lines_of [] = []
 lines_of (b ∷ bs) = if b == 10 then [] ∷ lines_of bs else onto_first b (lines_of bs)
 
--- lines of a text of tables, the one that ends it not among them
+-- lines of a text of tables in some version, the one that ends it not among them
 abbrev pub BeginTables : List (List ℕ) → Type 0
-BeginTables lines = (lines ≡ []) ⊎ ((tables : List NamedTable) × IsTrue (is_spelled_set tables) × (lines ≡ tables_lines tables))
+BeginTables lines = (lines ≡ []) ⊎ ((version : Version) × (tables : List NamedTable) × IsTrue (is_spelled_set tables) × (lines ≡ tables_lines version tables))
 
 -- all lines of a text of tables
 abbrev pub EndTables : List (List ℕ) → Type 0
-EndTables lines = (tables : List NamedTable) × IsTrue (is_spelled_set tables) × (lines ≡ tables_lines tables ++ sql_line ∷ [])
+EndTables lines = (version : Version) × (tables : List NamedTable) × IsTrue (is_spelled_set tables) × (lines ≡ tables_lines version tables ++ sql_line ∷ [])
 
 -- The lines before this one begin a text of tables, and with it they neither begin nor end one; lines are counted from 1.
 -- A text that ends sooner is bad at the line after its last line feed.

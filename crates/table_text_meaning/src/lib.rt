@@ -1,2 +1,6 @@
-//! How tables are written as text, and which line of a text is the first bad one: definitions.
+//! How tables are written as text, in two versions, and which line of a text is the first bad one: definitions.
 #![tactic(auto)]
+
+mod version;
+
+pub use version::Version;

@@ -5,7 +5,7 @@ use Rattle.table_text.proofs.tables.read_tables.Given as goal
 
 abbrev pub invariant-lines : goal.invariant-lines
 invariant-lines l =
-    ReadSoFar l.bytes l.rest l.tables.items l.line × (l.names ≡ map table_name l.tables.items) × (l.line + length l.rest ≤ length l.bytes + 2)
+    ReadSoFar l.version l.bytes l.rest l.tables.items l.line × (l.names ≡ map table_name l.tables.items) × (l.line + length l.rest ≤ length l.bytes + 2)
 
 abbrev pub decreases-lines : goal.decreases-lines
 decreases-lines l = length l.rest

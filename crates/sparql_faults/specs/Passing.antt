@@ -3,7 +3,7 @@ use Rattle.std.proofs.Common.{ℕ, ◌≡◌, Bool, true, false, ◌&&◌, nat_l
 use Rattle.sparql_meaning.specs.declared.token.TokenKind.{TokenKind}
 use Rattle.sparql_query_meaning.specs.declared.refusal.QueryLimit.{QueryLimit}
 use Rattle.sparql_query_meaning.specs.declared.refusal.QueryLimit.TheVariants.{Patterns, Variables, Groups, Blocks, Depth, Keys, Digits}
-use Rattle.sparql_query_meaning.specs.Limits.{State, Fault, limit, first_limit, passed, depth_of, has_long_count}
+use Rattle.sparql_query_meaning.specs.Limits.{all_limits, State, Fault, limit, first_limit, passed, depth_of, has_long_count}
 use Rattle.sparql_faults.specs.declared.limits.Counts.{Counts}
 
 abbrev pub first_of : Bool → QueryLimit → Option QueryLimit → Option QueryLimit
@@ -38,7 +38,7 @@ last_in false q = refl
 abbrev pub counts_in : State → Counts
 counts_in st = record { patterns = st.patterns; variables = length st.names; groups = st.groups; blocks = st.blocks; keys = st.keys }
 
-pub first_passed : (before after : State) (t : TokenKind) → first_limit (passed before after t) ≡ fault_of_limit (limit_of (counts_in before) (counts_in after) (nat_lt 48 (depth_of before.role t)) (has_long_count before.role t))
+pub first_passed : (before after : State) (t : TokenKind) → first_limit (passed all_limits before after t) ≡ fault_of_limit (limit_of (counts_in before) (counts_in after) (nat_lt 48 (depth_of before.role t)) (has_long_count before.role t))
 first_passed before after t =
     first_in (passes 48 before.patterns after.patterns) Patterns _ _
     (first_in (passes 64 before.keys after.keys) Keys _ _

@@ -1,5 +1,5 @@
 -- The patterns of a query have the numbers from 1 on, in order of the text.
-use Rattle.std.specs.Prelude.{◌≡◌, ℕ, suc, ◌+◌, List, [], ◌∷◌, ◌++◌, length, map, refl}
+use Rattle.std.specs.Prelude.{◌≡◌, ℕ, Bool, suc, ◌+◌, List, [], ◌∷◌, ◌++◌, length, map, refl}
 use Rattle.std.proofs.Common.{sym, ap, ◌∙◌, subst, arith}
 use Rattle.std.specs.List.{AllByRecursion}
 use Rattle.query_meaning.specs.declared.pattern.Pattern.{Pattern}
@@ -13,7 +13,8 @@ use Rattle.query_meaning.specs.declared.query.Query.{Query}
 use Rattle.sparql_grammar_meaning.specs.Grammar.{group_of}
 use Rattle.sparql_meaning.specs.declared.gathered.Gathered.{Gathered}
 use Rattle.sparql_meaning.specs.Translation.{Part, part, group, take_part, take_parts, nothing_yet, whole}
-use Rattle.sparql_query_meaning.specs.Queries.{Numbered, numbered, Numbering, made_by, number_patterns, number_all, number_element, number_group, numbered_group, IsQuery, is_query}
+use Rattle.sparql_query_meaning.specs.declared.refusal.QueryLimit.{QueryLimit}
+use Rattle.sparql_query_meaning.specs.Queries.{Numbered, numbered, Numbering, made_by, number_patterns, number_all, number_element, number_group, numbered_group, IsQueryWithin, is_query}
 use Rattle.sparql_translation_laws.specs.Parts.{part-Triples, part-Optional, part-Unions, part-Condition, group_opened}
 use Rattle.sparql_translation_laws.specs.GroupInduction.{OfGroup, IsPassedUp, every_group}
 use Rattle.sparql_translation_laws.specs.TreePatterns.{tree_patterns, patterns-Leaf, gathered_patterns, all_gathered, part_patterns, patterns-take, patterns-whole}
@@ -112,6 +113,6 @@ numbered_whole g =
     subst (λ (ps : List Pattern). NumberedFrom 1 ps) (sym (patterns-whole (group (numbered_group g))))
     (numbers-from 1 (number_in g 1).after (gathered_patterns (group (numbered_group g))) (counted_group g (every_group Counted counted g) 1))
 
-pub query_numbered : (bytes : List ℕ) (q : Query) → IsQuery bytes q → NumberedFrom 1 (tree_patterns q.tree)
-query_numbered bytes q (is_query ts w long cut quiet reads e) =
+pub query_numbered : (counts : QueryLimit → Bool) (bytes : List ℕ) (q : Query) → IsQueryWithin counts bytes q → NumberedFrom 1 (tree_patterns q.tree)
+query_numbered counts bytes q (is_query ts w long cut quiet reads e) =
     subst (λ (x : Query). NumberedFrom 1 (tree_patterns x.tree)) (sym e) (numbered_whole (group_of w.elements))

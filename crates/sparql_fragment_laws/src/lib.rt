@@ -1,7 +1,7 @@
-//! Laws of queries of the fragment: what its limits say of a query that is read. Each is the contract of a function that
-//! does nothing: proofs above cite the laws, and the functions show that they are proved.
+//! What the limits of a text say of its tokens, and how the patterns of its query are numbered. The law is the contract of a
+//! function that does nothing: proofs above cite it, and the function shows that it is proved.
 #![tactic(auto)]
 
 mod limits;
 
-pub use limits::{names_are_few, patterns_are_numbered, texts_stay_within};
+pub use limits::texts_stay_within;

@@ -1,10 +1,12 @@
--- What the counts along a text tell of what is read: a walk from place to place passes no more patterns, keys and brackets than
--- the count has.
-use Rattle.std.specs.Prelude.{◌≡◌, ◌≤◌, ℕ, suc, ◌+◌, ◌-◌, ◌*◌, Bool, true, false, ◌&&◌, if◌then◌else◌, nat_le, List, [], ◌∷◌, ◌++◌, length, map, refl}
+-- What the counts along a text tell of what is read: a walk from place to place counts the patterns and keys of what it reads, and
+-- the connectives stand no deeper than the brackets and `!` along it.
+use Rattle.std.specs.Prelude.{◌≡◌, ◌≤◌, ℕ, zero, suc, ◌+◌, ◌-◌, ◌*◌, Bool, true, false, ◌&&◌, if◌then◌else◌, nat_le, List, [], ◌∷◌, ◌++◌, length, map, refl}
 use Rattle.std.specs.List.{AllByRecursion}
 use Rattle.std.proofs.Common.{sym, ap, ◌∙◌, subst, arith, length-append}
 use Rattle.std.proofs.lemmas.Bool.{false≢true, leb-true, le-leb}
 use Rattle.grammar_meaning.specs.Grammar.{Pair, Made}
+use Rattle.grammar_meaning.specs.Outcome.{implies}
+use Rattle.rdf_meaning.specs.Terms.{RdfTerm}
 use Rattle.query_meaning.specs.declared.pattern.Slot.{Slot}
 use Rattle.query_meaning.specs.declared.pattern.Pattern.{Pattern}
 use Rattle.query_meaning.specs.declared.expression.ValueExpr.{ValueExpr}
@@ -22,64 +24,91 @@ use Rattle.sparql_grammar_meaning.specs.Grammar.{Kind, sign, Symbol, Query_, Pro
 use Rattle.sparql_meaning.specs.Translation.{conjunction}
 use Rattle.sparql_query_meaning.specs.Queries.{Numbered, number_all}
 use Rattle.sparql_fragment_laws.specs.Numbers.{number, number_in, number-Triples, number-Optional, number-Unions, number-Condition, number_in-opened}
-use Rattle.sparql_query_meaning.specs.Limits.{Place, subject, predicate, object, Role, next, text_of, type_of, behind_object, filter, end, order, done, one_if, open_now, behind_bracket, completes, behind_brace}
+use Rattle.sparql_query_meaning.specs.Limits.{Place, subject, predicate, object, Role, is_behind_object, head, next, text_of, type_of, behind_object, filter, end, order, done, one_if, open_now, behind_bracket, completes, behind_brace}
 use Rattle.sparql_walk_laws.specs.Shapes.{Leaves, leaf_sign, leaf_variable, leaf_iri, leaf_named, leaf_prefix, leaf_string, leaf_tag, leaf_count, leaf_literal, leaf_function, leaf_test, leaf_compare, leaf_direction, Shape, empty, token, symbol, both, either, several, word, maybe, shape}
 use Rattle.sparql_walk_laws.specs.Walks.{Walks, walk_empty, walk_token, walk_symbol, walk_both, walk_left, walk_right, walk_several}
 use Rattle.sparql_query_laws.specs.Connectives.{deepest, connectives, connectives-Value, connectives-Bound, connectives-Compare, connectives-OneOf, connectives-SameTerm, connectives-Is, connectives-Not, connectives-All, connectives-Any, deepest_within}
 use Rattle.sparql_query_laws.specs.Passing.{both_true, Tests, condition_passes, ElementPasses, GroupPasses, triples_pass, optional_passes, unions_pass, condition_pass, group_passes}
 use Rattle.sparql_query_laws.specs.Sound.{left_true, right_true}
 use Rattle.sparql_query_laws.specs.Effects.{goes_by, after_by, groups_by, keys_by, depth_by}
+use Rattle.sparql_fragment_laws.specs.Within.{state_behind}
 use Rattle.sparql_query_laws.specs.Places.{At, goes, Moved}
+use Rattle.sparql_query_laws.specs.Pace.{no_brace, in_condition, no_order, inside, around, not_order, Inner, Around, Early, to_elsewhere, inner_step, around_step, early_step}
 
--- ---- counts that only grow, and groups that are closed again
+-- ---- groups are closed again, and the end of the text stays
 
 pub record Later (c d : At) : Type 0 where
-  pub patterns : c.state.patterns ≤ d.state.patterns
-  pub keys : c.state.keys ≤ d.state.keys
   pub groups : c.state.groups ≡ d.state.groups
+  pub behind : state_behind c.state c.tokens ≡ state_behind d.state d.tokens
 
 pub later_here : (c : At) → Later c c
-later_here c = record { patterns = omega arith; keys = omega arith; groups = refl }
+later_here c = record { groups = refl; behind = refl }
 
 pub later_both : {c d e : At} → Later c d → Later d e → Later c e
-later_both h k = record { patterns = let a = h.patterns in let b = k.patterns in omega (arith, a, b); keys = let a = h.keys in let b = k.keys in omega (arith, a, b); groups = h.groups ∙ k.groups }
-
-keys_grow : (r : Role) (n : ℕ) (x : Lexeme) → n ≤ keys_by r n x
-keys_grow order n (l.Variable i) = omega arith
-keys_grow r n x = omega arith
-
-pub moved_patterns : {c d : At} {x : Lexeme} → Moved c x d → c.state.patterns ≤ d.state.patterns
-moved_patterns h = let e = h.patterns in omega (arith, e)
+later_both h k = record { groups = h.groups ∙ k.groups; behind = h.behind ∙ k.behind }
 
 moved_later : {c d : At} {x : Lexeme} → Moved c x d → ((n : ℕ) → groups_by n x ≡ n) → Later c d
-moved_later {c = c} {x = x} h level = record {
-  patterns = moved_patterns h;
-  keys = let e = h.keys in let k = keys_grow c.state.role c.state.keys x in omega (arith, e, k);
-  groups = sym (level c.state.groups) ∙ sym h.groups;
-}
-
-abbrev pub no_brace : Kind → Bool
-no_brace (sign s.OpenBrace) = false
-no_brace (sign s.CloseBrace) = false
-no_brace a = true
+moved_later {c = c} {x = x} h level = record { groups = sym (level c.state.groups) ∙ sym h.groups; behind = h.behind }
 
 level_sign : (a : Sign) → no_brace (sign a) ≡ true → (n : ℕ) → groups_by n (l.Sign a) ≡ n
 level_sign s.OpenBrace h n = absurd (false≢true h)
 level_sign s.CloseBrace h n = absurd (false≢true h)
 level_sign a h n = refl
 
-level_leaf : (a : Kind) (x : Lexeme) → Leaves a x → no_brace a ≡ true → (n : ℕ) → groups_by n x ≡ n
+pub level_leaf : (a : Kind) (x : Lexeme) → Leaves a x → no_brace a ≡ true → (n : ℕ) → groups_by n x ≡ n
 level_leaf a x (leaf_sign {a = b}) h n = level_sign b h n
 level_leaf a x leaf_variable h n = refl
 level_leaf a x y h n = refl
 
-abbrev pub braceless : Shape → Bool
-braceless empty = true
-braceless (token a) = no_brace a
-braceless (symbol y) = true
-braceless (both f g) = braceless f && braceless g
-braceless (either f g) = braceless f && braceless g
-braceless (several f) = braceless f
+-- all tokens of a shape pass the first test, and all its symbols the second
+abbrev pub fits : (Kind → Bool) → (Symbol → Bool) → Shape → Bool
+fits k y empty = true
+fits k y (token a) = k a
+fits k y (symbol z) = y z
+fits k y (both f g) = fits k y f && fits k y g
+fits k y (either f g) = fits k y f && fits k y g
+fits k y (several f) = fits k y f
+
+abbrev pub any_symbol : Symbol → Bool
+any_symbol y = true
+
+-- the symbols of conditions, and the terms that stand in them
+abbrev pub inner_symbol : Symbol → Bool
+inner_symbol Iri_ = true
+inner_symbol Literal_ = true
+inner_symbol Cond_ = true
+inner_symbol Truth_ = true
+inner_symbol And_ = true
+inner_symbol Rel_ = true
+inner_symbol Compared_ = true
+inner_symbol Operator_ = true
+inner_symbol Values_ = true
+inner_symbol Prim_ = true
+inner_symbol Atom_ = true
+inner_symbol Value_ = true
+inner_symbol Fun_ = true
+inner_symbol Test_ = true
+inner_symbol y = false
+
+abbrev pub outer_symbol : Symbol → Bool
+outer_symbol Prologue_ = true
+outer_symbol Prefix_ = true
+outer_symbol Shown_ = true
+outer_symbol Order_ = true
+outer_symbol Key_ = true
+outer_symbol Slice_ = true
+outer_symbol y = false
+
+abbrev pub early_symbol : Symbol → Bool
+early_symbol Query_ = false
+early_symbol Order_ = false
+early_symbol y = true
+
+pub record Paced (y : Symbol) (c d : At) : Type 0 where
+  pub later : Later c d
+  pub inner : inner_symbol y ≡ true → Inner c d
+  pub around : outer_symbol y ≡ true → Around c d
+  pub early : early_symbol y ≡ true → Early c d
 
 -- ---- what each symbol owes
 
@@ -89,7 +118,7 @@ gain p = 0
 
 -- where no tag or `^^` is next, the place has this role, and so many patterns are counted
 abbrev pub Ready : At → Role → ℕ → Type 0
-Ready c r k = goes c ≡ false → (c.state.role ≡ r) × (k ≤ c.state.patterns)
+Ready c r k = goes c ≡ false → (c.state.role ≡ r) × (c.state.patterns ≡ k)
 
 -- between triples and other elements
 pub data IsOpen : Role → Type 0 where
@@ -97,7 +126,7 @@ pub data IsOpen : Role → Type 0 where
   open_next : {p : Place} → IsOpen (next p)
 
 abbrev pub AtOpen : At → ℕ → Type 0
-AtOpen c k = goes c ≡ false → IsOpen c.state.role × (k ≤ c.state.patterns)
+AtOpen c k = goes c ≡ false → IsOpen c.state.role × (c.state.patterns ≡ k)
 
 abbrev pub InFilter : At → List Bool → Bool → Type 0
 InFilter c bs waits = c.state.role ≡ filter bs waits
@@ -135,7 +164,7 @@ gained c d x r q n h e f g =
     let same : one_if (completes c.state.role d.state.role) ≡ n = ap (λ (z : Role). one_if (completes z d.state.role)) e ∙ ap (λ (z : Role). one_if (completes r z)) f ∙ g in
     h.patterns ∙ ap (λ (z : ℕ). c.state.patterns + z) same
 
-part_done : (c d : At) (x : Lexeme) (r : Role) (p : Place) (k : ℕ) → one_if (completes r (done p)) ≡ gain p → Moved c x d → c.state.role ≡ r → k ≤ c.state.patterns → d.state.role ≡ done p → Ready d (done p) (k + gain p)
+part_done : (c d : At) (x : Lexeme) (r : Role) (p : Place) (k : ℕ) → one_if (completes r (done p)) ≡ gain p → Moved c x d → c.state.role ≡ r → c.state.patterns ≡ k → d.state.role ≡ done p → Ready d (done p) (k + gain p)
 part_done c d x r p k g h e few role quiet = (role, let n = gained c d x r (done p) (gain p) h e role g in omega (arith, n, few))
 
 next_gains : (p : Place) → one_if (completes (next p) (done p)) ≡ gain p
@@ -173,14 +202,14 @@ open_filter c d bs waits h e = by_role c d (l.Sign s.OpenBracket) (filter bs wai
 open_depth : (c d : At) (bs : List Bool) (waits : Bool) → Moved c (l.Sign s.OpenBracket) d → InFilter c bs waits → open_now (waits ∷ bs) false ≤ 48
 open_depth c d bs waits h e = by_depth c d (l.Sign s.OpenBracket) (filter bs waits) h e
 
-behind_is : (b : Bool) (bs : List Bool) → behind_bracket (b ∷ bs) ≡ behind bs
+pub behind_is : (b : Bool) (bs : List Bool) → behind_bracket (b ∷ bs) ≡ behind bs
 behind_is b [] = refl
 behind_is b (c ∷ bs) = refl
 
 close_filter : (c d : At) (b : Bool) (bs : List Bool) (waits : Bool) → Moved c (l.Sign s.CloseBracket) d → InFilter c (b ∷ bs) waits → d.state.role ≡ behind bs
 close_filter c d b bs waits h e = by_role c d (l.Sign s.CloseBracket) (filter (b ∷ bs) waits) h e ∙ behind_is b bs
 
-open_waits : (bs : List Bool) (waits : Bool) → open_now bs waits ≡ one_if waits + open_now bs false
+pub open_waits : (bs : List Bool) (waits : Bool) → open_now bs waits ≡ one_if waits + open_now bs false
 open_waits [] true = refl
 open_waits [] false = refl
 open_waits (b ∷ bs) waits = let e = open_waits bs waits in omega (arith, e)
@@ -310,10 +339,10 @@ condition_sized e h = record { passes = condition_pass depth_tests e (le-leb (co
 pub record GroupDone (xs : List Element) (c d : At) (k : ℕ) : Type 0 where
   pub sized : ElementsSized xs
   pub role : d.state.role ≡ behind_brace c.state.groups
-  pub count : k + sized.size ≤ d.state.patterns
+  pub count : d.state.patterns ≡ k + sized.size
 
 pub data GroupAt (c d : At) : Tree → Type 0 where
-  group_at : {xs : List Element} → ((k : ℕ) → (goes c ≡ false → k ≤ c.state.patterns) → GroupDone xs c d k) → GroupAt c d (elements xs)
+  group_at : {xs : List Element} → ((k : ℕ) → (goes c ≡ false → c.state.patterns ≡ k) → GroupDone xs c d k) → GroupAt c d (elements xs)
 
 pub record OtherDone (x : Element) (d : At) (k : ℕ) : Type 0 where
   pub sized : ElementSized x
@@ -323,18 +352,28 @@ pub data OtherAt (c d : At) : Tree → Type 0 where
   other_at : {x : Element} → ((k g : ℕ) → c.state.groups ≡ suc g → AtOpen c k → OtherDone x d k) → OtherAt c d (an_element x)
 
 pub record KeyAt (c d : At) : Type 0 where
-  pub counted : c.state.role ≡ order → (d.state.role ≡ order) × (c.state.keys + 1 ≤ d.state.keys)
+  pub counted : c.state.role ≡ order → (d.state.role ≡ order) × (d.state.keys ≡ c.state.keys + 1)
 
 pub data KeysAt (c d : At) : Tree → Type 0 where
-  keys_at : {xs : List SortKey} → (c.state.role ≡ end → c.state.keys + length xs ≤ d.state.keys) → KeysAt c d (keys xs)
+  keys_at : {xs : List SortKey} → (c.state.role ≡ end → d.state.keys ≡ c.state.keys + length xs) → KeysAt c d (keys xs)
 
-pub record WrittenFine (w : Written) : Type 0 where
+pub record WrittenDone (w : Written) (d : At) : Type 0 where
   pub sized : ElementsSized w.elements
-  pub few : sized.size ≤ 48
-  pub keys : length w.keys ≤ 64
+  pub patterns : d.state.patterns ≡ sized.size
+  pub keys : d.state.keys ≡ length w.keys
+
+-- no token is read yet
+pub record AtFirst (c : At) : Type 0 where
+  pub role : c.state.role ≡ head
+  pub groups : c.state.groups ≡ 0
+  pub patterns : c.state.patterns ≡ 0
+  pub keys : c.state.keys ≡ 0
 
 pub data WrittenAt (c d : At) : Tree → Type 0 where
-  written_at : {w : Written} → (c.state.groups ≡ 0 → WrittenFine w) → WrittenAt c d (a_query w)
+  written_at : {w : Written} → (AtFirst c → WrittenDone w d) → WrittenAt c d (a_query w)
+
+pub record SliceAt (c d : At) : Type 0 where
+  pub keys : d.state.keys ≡ c.state.keys
 
 abbrev pub Of : Symbol → At → At → Tree → Type 0
 Of Query_ c d x = WrittenAt c d x
@@ -364,23 +403,74 @@ Of Fun_ c d x = FunAt c d x
 Of Test_ c d x = TestAt c d x
 Of Order_ c d x = KeysAt c d x
 Of Key_ c d x = KeyAt c d
-Of Slice_ c d x = Unit {0}
+Of Slice_ c d x = SliceAt c d
 
 pub data Owes (y : Symbol) (c d : At) (x : Tree) : Type 0 where
-  owes : Later c d → Of y c d x → Owes y c d x
+  owes : Paced y c d → Of y c d x → Owes y c d x
 
 abbrev pub W : Shape → At → At → Read → Type 0
 W f c d m = Walks Moved Owes f c d m
 
-pub later_walk : (f : Shape) (c d : At) (m : Read) → braceless f ≡ true → W f c d m → Later c d
-later_walk f c d m e walk_empty = later_here c
-later_walk f c d m e (walk_token {a = a} {x = x} y h) = moved_later h (level_leaf a x y e)
-later_walk f c d m e (walk_symbol (owes h k)) = h
-later_walk f c d m e (walk_both {f = g} {g = g'} {d = a} {n = n} {m = n'} x y) =
-    later_both (later_walk g c a n (left_true (braceless g) (braceless g') e) x) (later_walk g' a d n' (right_true (braceless g) (braceless g') e) y)
-later_walk f c d m e (walk_left {f = g} {g = g'} x) = later_walk g c d m (left_true (braceless g) (braceless g') e) x
-later_walk f c d m e (walk_right {f = g} {g = g'} x) = later_walk g' c d m (right_true (braceless g) (braceless g') e) x
-later_walk f c d m e (walk_several {f = g} x) = later_walk (either (both g (several g)) empty) c d m (both_true (both_true e e) refl) x
+pub paced : {y : Symbol} {c d : At} {x : Tree} → Owes y c d x → Paced y c d
+paced (owes h k) = h
+
+-- what the tokens of a shape and its symbols keep, each walk over it keeps
+module _ (P : At → At → Type 0) (here : (c : At) → P c c) (more : (c d e : At) → P c d → P d e → P c e) (k : Kind → Bool) (y : Symbol → Bool)
+    (step : (a : Kind) (c d : At) (x : Lexeme) → Leaves a x → k a ≡ true → Moved c x d → P c d) (owed : (z : Symbol) (c d : At) → y z ≡ true → Paced z c d → P c d) where
+  pub kept_walk : (f : Shape) (c d : At) (m : Read) → fits k y f ≡ true → W f c d m → P c d
+  kept_walk f c d m e walk_empty = here c
+  kept_walk f c d m e (walk_token {a = a} {x = x} l h) = step a c d x l e h
+  kept_walk f c d m e (walk_symbol {s = z} h) = owed z c d e (paced h)
+  kept_walk f c d m e (walk_both {f = g} {g = g'} {d = a} {n = n} {m = n'} x z) =
+      more c a d (kept_walk g c a n (left_true (fits k y g) (fits k y g') e) x) (kept_walk g' a d n' (right_true (fits k y g) (fits k y g') e) z)
+  kept_walk f c d m e (walk_left {f = g} {g = g'} x) = kept_walk g c d m (left_true (fits k y g) (fits k y g') e) x
+  kept_walk f c d m e (walk_right {f = g} {g = g'} x) = kept_walk g' c d m (right_true (fits k y g) (fits k y g') e) x
+  kept_walk f c d m e (walk_several {f = g} x) = kept_walk (either (both g (several g)) empty) c d m (both_true (both_true e e) refl) x
+
+later_step : (a : Kind) (c d : At) (x : Lexeme) → Leaves a x → no_brace a ≡ true → Moved c x d → Later c d
+later_step a c d x y e h = moved_later h (level_leaf a x y e)
+
+later_owed : (z : Symbol) (c d : At) → any_symbol z ≡ true → Paced z c d → Later c d
+later_owed z c d e h = h.later
+
+pub later_walk : (f : Shape) (c d : At) (m : Read) → fits no_brace any_symbol f ≡ true → W f c d m → Later c d
+later_walk = kept_walk Later later_here (λ c d e. later_both) no_brace any_symbol later_step later_owed
+
+inner_here : (c : At) → Inner c c
+inner_here c e = (e, refl)
+
+inner_both : (c d e : At) → Inner c d → Inner d e → Inner c e
+inner_both a b c h k e = let x = k e in let y = h x.0 in (y.0, x.1 ∙ y.1)
+
+inner_owed : (z : Symbol) (c d : At) → inner_symbol z ≡ true → Paced z c d → Inner c d
+inner_owed z c d e h = h.inner e
+
+inner_walk : (f : Shape) (c d : At) (m : Read) → fits in_condition inner_symbol f ≡ true → W f c d m → Inner c d
+inner_walk = kept_walk Inner inner_here inner_both in_condition inner_symbol inner_step inner_owed
+
+around_here : (c : At) → Around c c
+around_here c e = (e, refl)
+
+around_both : (c d e : At) → Around c d → Around d e → Around c e
+around_both a b c h k e = let x = h e in let y = k x.0 in (y.0, y.1 ∙ x.1)
+
+around_owed : (z : Symbol) (c d : At) → outer_symbol z ≡ true → Paced z c d → Around c d
+around_owed z c d e h = h.around e
+
+around_walk : (f : Shape) (c d : At) (m : Read) → fits no_brace outer_symbol f ≡ true → W f c d m → Around c d
+around_walk = kept_walk Around around_here around_both no_brace outer_symbol around_step around_owed
+
+early_here : (c : At) → Early c c
+early_here c e = (e, refl)
+
+early_both : (c d e : At) → Early c d → Early d e → Early c e
+early_both a b c h k e = let x = h e in let y = k x.0 in (y.0, y.1 ∙ x.1)
+
+early_owed : (z : Symbol) (c d : At) → early_symbol z ≡ true → Paced z c d → Early c d
+early_owed z c d e h = h.early e
+
+early_walk : (f : Shape) (c d : At) (m : Read) → fits no_order early_symbol f ≡ true → W f c d m → Early c d
+early_walk = kept_walk Early early_here early_both no_order early_symbol early_step early_owed
 
 -- ---- parts of triples
 
@@ -404,16 +494,17 @@ text_done c d t p k h ready quiet =
     let role : d.state.role ≡ done p = by_role c d (l.Text t) (next p) h r.0 ∙ ap (λ (b : Bool). if b then text_of p else done p) quiet in
     part_done c d (l.Text t) (next p) p k (next_gains p) h r.0 r.1 role quiet
 
-text_waits : (c d : At) (t : List ℕ) (p : Place) (k : ℕ) → Moved c (l.Text t) d → Ready c (next p) k → goes d ≡ true → (d.state.role ≡ text_of p) × (k ≤ d.state.patterns)
+text_waits : (c d : At) (t : List ℕ) (p : Place) (k : ℕ) → Moved c (l.Text t) d → Ready c (next p) k → goes d ≡ true → (d.state.role ≡ text_of p) × (d.state.patterns ≡ k)
 text_waits c d t p k h ready going =
     let r = ready (not_going h refl) in
-    (by_role c d (l.Text t) (next p) h r.0 ∙ ap (λ (b : Bool). if b then text_of p else done p) going, let a = moved_patterns h in let b = r.1 in omega (arith, a, b))
+    let role : d.state.role ≡ text_of p = by_role c d (l.Text t) (next p) h r.0 ∙ ap (λ (b : Bool). if b then text_of p else done p) going in
+    (role, to_elsewhere c d (l.Text t) (text_of p) h role refl ∙ r.1)
 
-tag_done : (c d : At) (y : List ℕ) (p : Place) (k : ℕ) → Moved c (l.Tag y) d → (c.state.role ≡ text_of p) × (k ≤ c.state.patterns) → Ready d (done p) (k + gain p)
+tag_done : (c d : At) (y : List ℕ) (p : Place) (k : ℕ) → Moved c (l.Tag y) d → (c.state.role ≡ text_of p) × (c.state.patterns ≡ k) → Ready d (done p) (k + gain p)
 tag_done c d y p k h r = part_done c d (l.Tag y) (text_of p) p k (text_gains p) h r.0 r.1 (by_role c d (l.Tag y) (text_of p) h r.0)
 
-carets_done : (c d : At) (p : Place) (k : ℕ) → Moved c (l.Sign s.TwoCarets) d → (c.state.role ≡ text_of p) × (k ≤ c.state.patterns) → Ready d (type_of p) k
-carets_done c d p k h r quiet = (by_role c d (l.Sign s.TwoCarets) (text_of p) h r.0, let a = moved_patterns h in let b = r.1 in omega (arith, a, b))
+carets_done : (c d : At) (p : Place) (k : ℕ) → Moved c (l.Sign s.TwoCarets) d → (c.state.role ≡ text_of p) × (c.state.patterns ≡ k) → Ready d (type_of p) k
+carets_done c d p k h r quiet = let role = by_role c d (l.Sign s.TwoCarets) (text_of p) h r.0 in (role, to_elsewhere c d (l.Sign s.TwoCarets) (type_of p) h role refl ∙ r.1)
 
 literal_at : (c d : At) (m : Read) → W (shape Literal_) c d m → LiteralAt c d
 literal_at c d m (walk_left (walk_both (walk_token (leaf_string {t = t}) h) (walk_right walk_empty))) = record {
@@ -450,7 +541,7 @@ verb_at c d m (walk_right (walk_right (walk_token leaf_sign h))) = record { trip
 -- ---- triples
 
 comma_step : (c d : At) (k : ℕ) → Moved c (l.Sign s.Comma) d → Ready c behind_object k → Ready d (next object) k
-comma_step c d k h ready quiet = let r = ready (not_going h refl) in (by_role c d (l.Sign s.Comma) behind_object h r.0, let a = moved_patterns h in let b = r.1 in omega (arith, a, b))
+comma_step c d k h ready quiet = let r = ready (not_going h refl) in let role = by_role c d (l.Sign s.Comma) behind_object h r.0 in (role, to_elsewhere c d (l.Sign s.Comma) (next object) h role refl ∙ r.1)
 
 objects_behind : (c d : At) (m : Read) → W (several (both (word s.Comma) (symbol Term_))) c d m → (k : ℕ) → Ready c behind_object k → Ready d behind_object (k + length (slots_behind m))
 objects_behind c d m (walk_several (walk_left (walk_both {d = e} {m = rest} (walk_both {d = a} (walk_token leaf_sign h) (walk_symbol (owes later i))) more))) k r =
@@ -475,10 +566,11 @@ semicolon_role : (r : Role) (n : ℕ) (g : Bool) → IsOpen r → after_by r n (
 semicolon_role r n g open_object = refl
 semicolon_role r n g open_next = refl
 
-open_step : (c d : At) (x : Lexeme) (q : Role) (k : ℕ) → goes_by x ≡ false → ((r : Role) (n : ℕ) (g : Bool) → IsOpen r → after_by r n x g ≡ q) → Moved c x d → AtOpen c k → Ready d q k
-open_step c d x q k g a h o quiet =
+open_step : (c d : At) (x : Lexeme) (q : Role) (k : ℕ) → goes_by x ≡ false → is_behind_object q ≡ false → ((r : Role) (n : ℕ) (g : Bool) → IsOpen r → after_by r n x g ≡ q) → Moved c x d → AtOpen c k → Ready d q k
+open_step c d x q k g f a h o quiet =
     let r = o (not_going h g) in
-    (h.role ∙ a c.state.role c.state.groups (goes d) r.0, let m = moved_patterns h in let b = r.1 in omega (arith, m, b))
+    let role = h.role ∙ a c.state.role c.state.groups (goes d) r.0 in
+    (role, to_elsewhere c d x q h role f ∙ r.1)
 
 predicate_gains : (k : ℕ) → k + gain predicate ≡ k
 predicate_gains k = omega arith
@@ -488,7 +580,7 @@ subject_gains k = omega arith
 
 pairs_behind : (a : Slot) (c d : At) (m : Read) → W (several (both (word s.Semicolon) (maybe (both (symbol Verb_) (symbol Objs_))))) c d m → (k : ℕ) → AtOpen c k → AtOpen d (k + length (patterns_behind a m))
 pairs_behind a c d m (walk_several (walk_left (walk_both {d = e} {m = rest} (walk_both {d = f} (walk_token leaf_sign h) (walk_left (walk_both {d = g} {n = verb} (walk_symbol (owes v i)) (walk_symbol (owes o (objs_at {xs = xs} j)))))) more))) k r =
-    let begun = i.triple predicate k (open_step c f (l.Sign s.Semicolon) (next predicate) k refl semicolon_role h r) in
+    let begun = i.triple predicate k (open_step c f (l.Sign s.Semicolon) (next predicate) k refl refl semicolon_role h r) in
     let objects = j k (subst (λ (z : ℕ). Ready g (next object) z) (predicate_gains k) begun) in
     let rest_open = pairs_behind a e d rest more (k + length xs) (open_by e behind_object (k + length xs) open_object objects) in
     let one = length_of a (slot_in verb) xs in
@@ -496,7 +588,7 @@ pairs_behind a c d m (walk_several (walk_left (walk_both {d = e} {m = rest} (wal
     let n : (k + length xs) + length (patterns_behind a rest) ≡ k + length (patterns_of a (slot_in verb) xs ++ patterns_behind a rest) = omega (arith, one, all) in
     subst (λ (z : ℕ). AtOpen d z) n rest_open
 pairs_behind a c d m (walk_several (walk_left (walk_both {d = e} {m = rest} (walk_both {d = f} (walk_token leaf_sign h) (walk_right walk_empty)) more))) k r =
-    pairs_behind a e d rest more k (open_by e (next predicate) k open_next (open_step c e (l.Sign s.Semicolon) (next predicate) k refl semicolon_role h r))
+    pairs_behind a e d rest more k (open_by e (next predicate) k open_next (open_step c e (l.Sign s.Semicolon) (next predicate) k refl refl semicolon_role h r))
 pairs_behind a c d m (walk_several (walk_right walk_empty)) k r = subst (λ (z : ℕ). AtOpen c z) (let n : k ≡ k + 0 = omega arith in n) r
 
 same_owed : (c d : At) (m : Read) → W (shape Same_) c d m → PatternsAt c d (build Same_ m)
@@ -522,7 +614,7 @@ maybe_triples c d m (walk_right walk_empty) k r = subst (λ (z : ℕ). AtOpen c 
 triples_owed : (c d : At) (m : Read) → W (shape Triples_) c d m → PatternsAt c d (build Triples_ m)
 triples_owed c d m (walk_both {d = a} (walk_symbol (owes u (patterns_at {ps = ps} h))) (walk_left (walk_both {d = b} {m = rest} (walk_token leaf_sign i) more))) =
     patterns_at (λ k r.
-    let x = maybe_triples b d rest more (k + length ps) (open_step a b (l.Sign s.Dot) (next subject) (k + length ps) refl dot_role i (h k r)) in
+    let x = maybe_triples b d rest more (k + length ps) (open_step a b (l.Sign s.Dot) (next subject) (k + length ps) refl refl dot_role i (h k r)) in
     let all = length-append ps (patterns_in rest) in
     let n : (k + length ps) + length (patterns_in rest) ≡ k + length (ps ++ patterns_in rest) = omega (arith, all) in
     subst (λ (z : ℕ). AtOpen d z) n x)
@@ -736,11 +828,11 @@ atom_owed c d m (walk_right (walk_symbol (owes u (test_at none i)))) = deep_trut
 
 -- ---- groups
 
-ready_by : (c d : At) (x : Lexeme) (q : Role) (r : Role) (k : ℕ) → Moved c x d → c.state.role ≡ r → ((n : ℕ) (g : Bool) → after_by r n x g ≡ q) → k ≤ c.state.patterns → Ready d q k
-ready_by c d x q r k h e a few quiet = (by_role c d x r h e ∙ a c.state.groups (goes d), let m = moved_patterns h in omega (arith, m, few))
+ready_by : (c d : At) (x : Lexeme) (q : Role) (r : Role) (k : ℕ) → is_behind_object q ≡ false → Moved c x d → c.state.role ≡ r → ((n : ℕ) (g : Bool) → after_by r n x g ≡ q) → c.state.patterns ≡ k → Ready d q k
+ready_by c d x q r k f h e a few quiet = let role = by_role c d x r h e ∙ a c.state.groups (goes d) in (role, to_elsewhere c d x q h role f ∙ few)
 
 maybe_dot : (c d : At) (m : Read) → W (maybe (word s.Dot)) c d m → (k : ℕ) → Ready c (next subject) k → Ready d (next subject) k
-maybe_dot c d m (walk_left (walk_token leaf_sign h)) k r = let x = r (not_going h refl) in ready_by c d (l.Sign s.Dot) (next subject) (next subject) k h x.0 (λ n g. refl) x.1
+maybe_dot c d m (walk_left (walk_token leaf_sign h)) k r = let x = r (not_going h refl) in ready_by c d (l.Sign s.Dot) (next subject) (next subject) k refl h x.0 (λ n g. refl) x.1
 maybe_dot c d m (walk_right walk_empty) k r = r
 
 pub record PartsDone (xs : List Element) (d : At) (k : ℕ) : Type 0 where
@@ -752,7 +844,7 @@ parts_at c d m (walk_several (walk_left (walk_both {d = e} {m = rest} (walk_both
     let first = h k g groups r in
     let behind_dot = maybe_dot a b dot i (k + first.sized.size) first.ready in
     let triples = maybe_triples b e ps j (k + first.sized.size) behind_dot in
-    let level : e.state.groups ≡ suc g = sym (later_both u (later_both (later_walk (maybe (word s.Dot)) a b dot refl i) (later_walk (maybe (symbol Triples_)) b e ps refl j))).groups ∙ groups in
+    let level : e.state.groups ≡ suc g = sym (later_both u.later (later_both (later_walk (maybe (word s.Dot)) a b dot refl i) (later_walk (maybe (symbol Triples_)) b e ps refl j))).groups ∙ groups in
     let others = parts_at e d rest more ((k + first.sized.size) + length (patterns_in ps)) g level triples in
     let sized = leaf_sized (patterns_in ps) (parts rest) others.sized in
     let count = leaf_size (patterns_in ps) (parts rest) others.sized in
@@ -760,10 +852,14 @@ parts_at c d m (walk_several (walk_left (walk_both {d = e} {m = rest} (walk_both
     record { sized = more_elements x (leaf (patterns_in ps) (parts rest)) first.sized sized; ready = subst (λ (z : ℕ). AtOpen d z) n others.ready }
 parts_at c d m (walk_several (walk_right walk_empty)) k g groups r = record { sized = no_elements; ready = subst (λ (z : ℕ). AtOpen c z) (let n : k ≡ k + 0 = omega arith in n) r }
 
+brace_elsewhere : (n : ℕ) → is_behind_object (behind_brace n) ≡ false
+brace_elsewhere zero = refl
+brace_elsewhere (suc n) = refl
+
 group_owed : (c d : At) (m : Read) → W (shape Group_) c d m → GroupAt c d (build Group_ m)
 group_owed c d m (walk_both {d = a} (walk_token leaf_sign h) (walk_both {d = b} {n = ps} i (walk_both {d = e} {n = es} j (walk_token leaf_sign q)))) =
     group_at (λ k few.
-    let start : Ready a (next subject) k = λ quiet. (h.role, let x = moved_patterns h in let y = few (not_going h refl) in omega (arith, x, y)) in
+    let start : Ready a (next subject) k = λ quiet. (h.role, to_elsewhere c a (l.Sign s.OpenBrace) (next subject) h h.role refl ∙ few (not_going h refl)) in
     let triples = maybe_triples a b ps i k start in
     let one_more : c.state.groups + 1 ≡ suc c.state.groups = omega arith in
     let opened : a.state.groups ≡ suc c.state.groups = h.groups ∙ one_more in
@@ -774,11 +870,12 @@ group_owed c d m (walk_both {d = a} (walk_token leaf_sign h) (walk_both {d = b} 
     let less : e.state.groups - 1 ≡ c.state.groups = omega (arith, here) in
     let count = leaf_size (patterns_in ps) (parts es) others.sized in
     let sum = counted.1 in
-    let grown = moved_patterns q in
+    let role = q.role ∙ ap behind_brace less in
+    let level_end = to_elsewhere e d (l.Sign s.CloseBrace) (behind_brace c.state.groups) q role (brace_elsewhere c.state.groups) in
     record {
       sized = leaf_sized (patterns_in ps) (parts es) others.sized;
-      role = q.role ∙ ap behind_brace less;
-      count = omega (arith, count, sum, grown);
+      role = role;
+      count = omega (arith, count, sum, level_end);
     })
 
 group_later : (c d : At) (m : Read) → W (shape Group_) c d m → Later c d
@@ -786,59 +883,50 @@ group_later c d m (walk_both {d = a} (walk_token leaf_sign h) (walk_both {d = b}
     let x = later_walk (maybe (symbol Triples_)) a b ps refl i in
     let y = later_walk (several (both (symbol Other_) (both (maybe (word s.Dot)) (maybe (symbol Triples_))))) b e es refl j in
     let z = later_both x y in
-    let patterns_first = moved_patterns h in
-    let patterns_inside = z.patterns in
-    let patterns_last = moved_patterns q in
-    let keys_first = h.keys in
-    let keys_more = keys_grow c.state.role c.state.keys (l.Sign s.OpenBrace) in
-    let keys_inside = z.keys in
-    let keys_last = q.keys in
-    let keys_end = keys_grow e.state.role e.state.keys (l.Sign s.CloseBrace) in
     let opened = h.groups in
     let inside = z.groups in
     let closed = q.groups in
-    record {
-      patterns = omega (arith, patterns_first, patterns_inside, patterns_last);
-      keys = omega (arith, keys_first, keys_more, keys_inside, keys_last, keys_end);
-      groups = omega (arith, opened, inside, closed);
-    }
+    record { groups = omega (arith, opened, inside, closed); behind = h.behind ∙ z.behind ∙ q.behind }
 
 pub record UnionsDone (gs : List Group) (d : At) (k : ℕ) : Type 0 where
   pub sized : GroupsSized gs
   pub role : d.state.role ≡ next subject
-  pub count : k + sized.size ≤ d.state.patterns
+  pub count : d.state.patterns ≡ k + sized.size
 
 inner_role : (n g : ℕ) → n ≡ suc g → behind_brace n ≡ next subject
 inner_role n g e = ap behind_brace e
 
-unions_at : (c d : At) (m : Read) → W (several (both (word s.Union) (symbol Group_))) c d m → (k g : ℕ) → c.state.groups ≡ suc g → c.state.role ≡ next subject → k ≤ c.state.patterns → UnionsDone (unions_behind m) d k
+unions_at : (c d : At) (m : Read) → W (several (both (word s.Union) (symbol Group_))) c d m → (k g : ℕ) → c.state.groups ≡ suc g → c.state.role ≡ next subject → c.state.patterns ≡ k → UnionsDone (unions_behind m) d k
 unions_at c d m (walk_several (walk_left (walk_both {d = e} {m = rest} (walk_both {d = a} (walk_token leaf_sign h) (walk_symbol (owes u (group_at {xs = xs} i)))) more))) k g groups role few =
-    let grown = moved_patterns h in
-    let one = i k (λ quiet. omega (arith, grown, few)) in
+    let next_one = to_elsewhere c a (l.Sign s.Union) (next subject) h (by_role c a (l.Sign s.Union) (next subject) h role) refl in
+    let one = i k (λ quiet. next_one ∙ few) in
     let level : a.state.groups ≡ suc g = h.groups ∙ groups in
-    let level_behind : e.state.groups ≡ suc g = sym u.groups ∙ level in
+    let level_behind : e.state.groups ≡ suc g = sym u.later.groups ∙ level in
     let others = unions_at e d rest more (k + one.sized.size) g level_behind (one.role ∙ inner_role a.state.groups g level) one.count in
     let sum = others.count in
     record { sized = more_groups (group_of xs) (unions_behind rest) (group_sized xs one.sized) others.sized; role = others.role; count = omega (arith, sum) }
 unions_at c d m (walk_several (walk_right walk_empty)) k g groups role few = record { sized = no_groups; role = role; count = omega (arith, few) }
 
-filter_role : (r : Role) (n : ℕ) (g : Bool) → IsOpen r → after_by r n (l.Sign s.Filter) g ≡ filter [] false
+pub filter_role : (r : Role) (n : ℕ) (g : Bool) → IsOpen r → after_by r n (l.Sign s.Filter) g ≡ filter [] false
 filter_role r n g open_object = refl
 filter_role r n g open_next = refl
+
+optional_role : (r : Role) (n : ℕ) (g : Bool) → IsOpen r → after_by r n (l.Sign s.Optional) g ≡ next subject
+optional_role r n g open_object = refl
+optional_role r n g open_next = refl
 
 other_owed : (c d : At) (m : Read) → W (shape Other_) c d m → OtherAt c d (build Other_ m)
 other_owed c d m (walk_left (walk_both {d = a} (walk_token leaf_sign h) (walk_symbol (owes u (group_at {xs = xs} i))))) =
     other_at (λ k g groups r.
     let now = r (not_going h refl) in
-    let few = now.1 in
-    let grown = moved_patterns h in
-    let one = i k (λ quiet. omega (arith, grown, few)) in
+    let begun = to_elsewhere c a (l.Sign s.Optional) (next subject) h (h.role ∙ optional_role c.state.role c.state.groups (goes a) now.0) refl in
+    let one = i k (λ quiet. begun ∙ now.1) in
     let level : a.state.groups ≡ suc g = h.groups ∙ groups in
     record { sized = optional_sized (group_of xs) (group_sized xs one.sized); ready = λ quiet. (one.role ∙ inner_role a.state.groups g level, one.count) })
 other_owed c d m (walk_right (walk_left (walk_both {d = a} {m = rest} (walk_symbol (owes u (group_at {xs = xs} i))) more))) =
     other_at (λ k g groups r.
     let one = i k (λ quiet. (r quiet).1) in
-    let level : a.state.groups ≡ suc g = sym u.groups ∙ groups in
+    let level : a.state.groups ≡ suc g = sym u.later.groups ∙ groups in
     let others = unions_at a d rest more (k + one.sized.size) g level (one.role ∙ inner_role c.state.groups g groups) one.count in
     let sum = others.count in
     record {
@@ -849,16 +937,19 @@ other_owed c d m (walk_right (walk_right (walk_both {d = a} (walk_token leaf_sig
     other_at (λ k g groups r.
     let now = r (not_going h refl) in
     let few = now.1 in
-    let grown = moved_patterns h in
-    let more = u.patterns in
     let in_filter : InFilter a [] false = h.role ∙ filter_role c.state.role c.state.groups (goes a) now.0 in
+    let begun = to_elsewhere c a (l.Sign s.Filter) (filter [] false) h in_filter refl in
     let one = i in_filter in
-    record { sized = condition_sized e one.1; ready = λ quiet. (one.0, omega (arith, grown, few, more)) })
+    let same = (u.inner refl (ap inside one.0)).1 in
+    record { sized = condition_sized e one.1; ready = λ quiet. (one.0, omega (arith, begun, few, same)) })
 
 -- ---- around the group
 
 key_count : (c d : At) (i : ℕ) → Moved c (l.Variable i) d → c.state.role ≡ order → d.state.keys ≡ c.state.keys + 1
 key_count c d i h e = h.keys ∙ ap (λ (r : Role). keys_by r c.state.keys (l.Variable i)) e
+
+key_same : (c d : At) (x : Lexeme) (r : Role) → Moved c x d → c.state.role ≡ r → keys_by r c.state.keys x ≡ c.state.keys → d.state.keys ≡ c.state.keys
+key_same c d x r h e f = h.keys ∙ ap (λ (z : Role). keys_by z c.state.keys x) e ∙ f
 
 key_at : (c d : At) (m : Read) → W (shape Key_) c d m → KeyAt c d
 key_at c d m (walk_left (walk_token (leaf_variable {n = i}) h)) = record { counted = λ e. (by_role c d (l.Variable i) order h e, let n = key_count c d i h e in omega (arith, n)) }
@@ -869,13 +960,13 @@ key_at c d m (walk_right (walk_both {d = a} (walk_token (leaf_direction {d = dow
           let at_variable = by_role a b (l.Sign s.OpenBracket) order i at_open in
           let at_close = by_role b f (l.Variable v) order j at_variable in
           let n = key_count b f v j at_variable in
-          let x = (moved_later h (λ z. refl)).keys in
-          let y = (moved_later i (λ z. refl)).keys in
-          let z = (moved_later q (λ z. refl)).keys in
+          let x = key_same c a (l.Direction down) order h e refl in
+          let y = key_same a b (l.Sign s.OpenBracket) order i at_open refl in
+          let z = key_same f d (l.Sign s.CloseBracket) order q at_close refl in
           (by_role f d (l.Sign s.CloseBracket) order q at_close, omega (arith, n, x, y, z));
     }
 
-keys_behind_at : (c d : At) (m : Read) → W (several (symbol Key_)) c d m → c.state.role ≡ order → c.state.keys + length (keys_behind m) ≤ d.state.keys
+keys_behind_at : (c d : At) (m : Read) → W (several (symbol Key_)) c d m → c.state.role ≡ order → d.state.keys ≡ c.state.keys + length (keys_behind m)
 keys_behind_at c d m (walk_several (walk_left (walk_both {d = a} {m = rest} (walk_symbol (owes u h)) more))) e =
     let one = h.counted e in
     let first = one.1 in
@@ -891,23 +982,55 @@ order_owed c d m (walk_both {d = a} (walk_token leaf_sign h) (walk_both {d = b} 
     let one = j.counted at_key in
     let first = one.1 in
     let others = keys_behind_at f d rest more one.0 in
-    let x = (moved_later h (λ z. refl)).keys in
-    let y = (moved_later i (λ z. refl)).keys in
+    let x = key_same c a (l.Sign s.Order) end h e refl in
+    let y = key_same a b (l.Sign s.By) order i at_by refl in
     omega (arith, first, others, x, y))
 
-maybe_order : (c d : At) (m : Read) → W (maybe (symbol Order_)) c d m → c.state.role ≡ end → length (keys_in m) ≤ 64
-maybe_order c d m (walk_left (walk_symbol (owes u (keys_at h)))) e = let n = h e in let most = d.within.keys in omega (arith, n, most)
+maybe_order : (c d : At) (m : Read) → W (maybe (symbol Order_)) c d m → c.state.role ≡ end → d.state.keys ≡ c.state.keys + length (keys_in m)
+maybe_order c d m (walk_left (walk_symbol (owes u (keys_at h)))) e = h e
 maybe_order c d m (walk_right walk_empty) e = omega arith
 
+sign_keys : (r : Role) (n : ℕ) (a : Sign) → keys_by r n (l.Sign a) ≡ n
+sign_keys order n a = refl
+sign_keys r n a = refl
+
+count_keys : (r : Role) (n i : ℕ) (x : RdfTerm) → keys_by r n (l.Count x i) ≡ n
+count_keys order n i x = refl
+count_keys r n i x = refl
+
+two_slices : (c a d : At) (x : Sign) (n : ℕ) (y : RdfTerm) → Moved c (l.Sign x) a → Moved a (l.Count y n) d → d.state.keys ≡ c.state.keys
+two_slices c a d x n y h k = k.keys ∙ count_keys a.state.role a.state.keys n y ∙ h.keys ∙ sign_keys c.state.role c.state.keys x
+
+slice_at : (c d : At) (m : Read) → W (shape Slice_) c d m → SliceAt c d
+slice_at c d m (walk_left (walk_both {d = a} (walk_token leaf_sign h) (walk_both {d = b} (walk_token (leaf_count {t = t} {n = n}) i) (walk_right walk_empty)))) = record { keys = two_slices c a d s.Limit n t h i }
+slice_at c d m (walk_left (walk_both {d = a} (walk_token leaf_sign h) (walk_both {d = b} (walk_token (leaf_count {t = t} {n = n}) i) (walk_left (walk_both {d = e} (walk_token leaf_sign j) (walk_token (leaf_count {t = u} {n = o}) q)))))) =
+    record { keys = two_slices b e d s.Offset o u j q ∙ two_slices c a b s.Limit n t h i }
+slice_at c d m (walk_right (walk_both {d = a} (walk_token leaf_sign h) (walk_both {d = b} (walk_token (leaf_count {t = t} {n = n}) i) (walk_right walk_empty)))) = record { keys = two_slices c a d s.Offset n t h i }
+slice_at c d m (walk_right (walk_both {d = a} (walk_token leaf_sign h) (walk_both {d = b} (walk_token (leaf_count {t = t} {n = n}) i) (walk_left (walk_both {d = e} (walk_token leaf_sign j) (walk_token (leaf_count {t = u} {n = o}) q)))))) =
+    record { keys = two_slices b e d s.Limit o u j q ∙ two_slices c a b s.Offset n t h i }
+
+maybe_slice : (c d : At) (m : Read) → W (maybe (symbol Slice_)) c d m → d.state.keys ≡ c.state.keys
+maybe_slice c d m (walk_left (walk_symbol (owes u h))) = h.keys
+maybe_slice c d m (walk_right walk_empty) = refl
+
 query_owed : (c d : At) (m : Read) → W (shape Query_) c d m → WrittenAt c d (build Query_ m)
-query_owed c d m (walk_both {d = a} (walk_symbol (owes u h)) (walk_both {d = b} (walk_token leaf_sign i) (walk_both {d = e} {n = distinct} j (walk_both {d = f} (walk_symbol (owes o q)) (walk_both {d = g} {n = where_} r (walk_both {d = z} (walk_symbol (owes y (group_at p))) (walk_both {d = w} {n = ks} t rest))))))) =
-    written_at (λ groups.
-    let levels = later_both u (later_both (moved_later i (λ n. refl)) (later_both (later_walk (maybe (word s.Distinct)) b e distinct refl j) (later_both o (later_walk (maybe (word s.Where)) f g where_ refl r)))) in
-    let level : g.state.groups ≡ 0 = sym levels.groups ∙ groups in
-    let one = p 0 (λ quiet. omega arith) in
-    let sum = one.count in
-    let most = z.within.patterns in
-    record { sized = one.sized; few = omega (arith, sum, most); keys = maybe_order z w ks t (one.role ∙ ap behind_brace level) })
+query_owed c d m (walk_both {d = a} (walk_symbol (owes u h)) (walk_both {d = b} (walk_token leaf_sign i) (walk_both {d = e} {n = distinct} j (walk_both {d = f} (walk_symbol (owes o q)) (walk_both {d = g} {n = where_} r (walk_both {d = z} (walk_symbol (owes y (group_at p))) (walk_both {d = w} {n = ks} {m = cut} t rest))))))) =
+    written_at (λ first.
+    let levels = later_both u.later (later_both (moved_later i (λ n. refl)) (later_both (later_walk (maybe (word s.Distinct)) b e distinct refl j) (later_both o.later (later_walk (maybe (word s.Where)) f g where_ refl r)))) in
+    let level : g.state.groups ≡ 0 = sym levels.groups ∙ first.groups in
+    let front = around_both c a g (u.around refl) (around_both a b g (around_step (sign s.Select) a b (l.Sign s.Select) leaf_sign refl i) (around_both b e g (around_walk (maybe (word s.Distinct)) b e distinct refl j) (around_both e f g (o.around refl) (around_walk (maybe (word s.Where)) f g where_ refl r)))) in
+    let none = (front (ap around first.role)).1 ∙ first.patterns in
+    let one = p 0 (λ quiet. none) in
+    let role = one.role ∙ ap behind_brace level in
+    let back = around_both z w d (around_walk (maybe (symbol Order_)) z w ks refl t) (around_walk (maybe (symbol Slice_)) w d cut refl rest) in
+    let same = (back (ap around role)).1 in
+    let counted = one.count in
+    let soon = early_both c a z (u.early refl) (early_both a b z (early_step (sign s.Select) a b (l.Sign s.Select) leaf_sign refl i) (early_both b e z (early_walk (maybe (word s.Distinct)) b e distinct refl j)
+    (early_both e f z (o.early refl) (early_both f g z (early_walk (maybe (word s.Where)) f g where_ refl r) (y.early refl))))) in
+    let no_keys = (soon (ap not_order first.role)).1 ∙ first.keys in
+    let keyed = maybe_order z w ks t role in
+    let sliced = maybe_slice w d cut rest in
+    record { sized = one.sized; patterns = omega (arith, same, counted); keys = omega (arith, no_keys, keyed, sliced) })
 
 pub of_symbol : (y : Symbol) (c d : At) (m : Read) → W (shape y) c d m → Of y c d (build y m)
 of_symbol Query_ c d m h = query_owed c d m h
@@ -937,12 +1060,35 @@ of_symbol Fun_ c d m h = fun_owed c d m h
 of_symbol Test_ c d m h = test_owed c d m h
 of_symbol Order_ c d m h = order_owed c d m h
 of_symbol Key_ c d m h = key_at c d m h
-of_symbol Slice_ c d m h = tt
+of_symbol Slice_ c d m h = slice_at c d m h
 
 later_of : (y : Symbol) (c d : At) (m : Read) → W (shape y) c d m → Later c d
 later_of Group_ c d m h = group_later c d m h
 later_of Query_ c d m h = later_walk (shape Query_) c d m refl h
 later_of y c d m h = later_walk (shape y) c d m refl h
 
+-- the symbols of a kind are made of tokens and symbols that have it too
+if_so : (a b : Bool) → implies a b ≡ true → a ≡ true → b ≡ true
+if_so true b h e = h
+if_so false b h e = absurd (false≢true e)
+
+inner_shape : (y : Symbol) → implies (inner_symbol y) (fits in_condition inner_symbol (shape y)) ≡ true
+inner_shape Query_ = refl
+inner_shape y = refl
+
+outer_shape : (y : Symbol) → implies (outer_symbol y) (fits no_brace outer_symbol (shape y)) ≡ true
+outer_shape Query_ = refl
+outer_shape y = refl
+
+early_shape : (y : Symbol) → implies (early_symbol y) (fits no_order early_symbol (shape y)) ≡ true
+early_shape Query_ = refl
+early_shape y = refl
+
 pub keeps : (y : Symbol) (c d : At) (m : Read) → W (shape y) c d m → Owes y c d (build y m)
-keeps y c d m h = owes (later_of y c d m h) (of_symbol y c d m h)
+keeps y c d m h =
+    owes (record {
+      later = later_of y c d m h;
+      inner = λ e. inner_walk (shape y) c d m (if_so (inner_symbol y) (fits in_condition inner_symbol (shape y)) (inner_shape y) e) h;
+      around = λ e. around_walk (shape y) c d m (if_so (outer_symbol y) (fits no_brace outer_symbol (shape y)) (outer_shape y) e) h;
+      early = λ e. early_walk (shape y) c d m (if_so (early_symbol y) (fits no_order early_symbol (shape y)) (early_shape y) e) h;
+    }) (of_symbol y c d m h)

@@ -1,9 +1,11 @@
+pub mod Short
 pub mod Within
 pub mod Passing
 pub mod Sound
 pub mod Names
 pub mod Effects
 pub mod Places
+pub mod Pace
 pub mod Connectives
 pub mod Counts
 pub mod Limits

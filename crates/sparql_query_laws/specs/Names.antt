@@ -1,10 +1,10 @@
 -- Each variable of a query is the place of one of its names.
 use Rattle.std.specs.Prelude.{◌≡◌, ◌<◌, ◌≤◌, ℕ, suc, ◌+◌, Bool, true, false, ◌||◌, ◌==◌, if◌then◌else◌, nat_lt, List, [], ◌∷◌, ◌++◌, length, Option, Some, None, refl}
-use Rattle.std.specs.List.{list_any, AllByRecursion}
+use Rattle.std.specs.List.{list_any, AllByRecursion, IsDistinct}
 use Rattle.std.specs.Str.{bytes_eq}
 use Rattle.std.specs.Cmp.Lexicographic.{nat_list_eq_equiv}
 use Rattle.std.proofs.Common.{sym, ap, ◌∙◌, subst, arith, length-append}
-use Rattle.std.proofs.lemmas.Bool.{false≢true, lt-ltb, ltb-true}
+use Rattle.std.proofs.lemmas.Bool.{false≢true, lt-ltb, ltb-true, or_parts}
 use Rattle.bags.specs.BagLaws.{each-append}
 use Rattle.grammar_meaning.specs.Grammar.{Made, Reads, call}
 use Rattle.rdf_meaning.specs.Characters.{is_digit}
@@ -21,15 +21,17 @@ use Rattle.sparql_meaning.specs.declared.word.Word.TheVariants as w
 use Rattle.sparql_meaning.specs.Translation.{translated}
 use Rattle.sparql_grammar_meaning.specs.declared.lexeme.Lexeme.{Lexeme}
 use Rattle.sparql_grammar_meaning.specs.declared.lexeme.Lexeme.TheVariants as l
-use Rattle.sparql_grammar_meaning.specs.Grammar.{Query_, grammar, a_query, Written, Tree, group_of}
+use Rattle.sparql_grammar_meaning.specs.Grammar.{Query_, build, grammar, a_query, Written, Tree, group_of}
+use Rattle.sparql_query_meaning.specs.declared.refusal.QueryLimit.{QueryLimit}
 use Rattle.sparql_query_meaning.specs.Prefixes.{Declared, Declaring, declaring, declared, nothing}
 use Rattle.sparql_query_meaning.specs.Lexemes.{with_name, named_by, names_from, place_of, variable_number, integer, integer_lexeme, number_of, word_lexeme, mark_lexeme, named_lexeme, base_of, lexeme, lexemes_from, lexemes, names}
-use Rattle.sparql_query_meaning.specs.Queries.{once, shown_of, syntax_of, variables_of, IsQuery, is_query}
+use Rattle.sparql_query_meaning.specs.Queries.{once, shown_of, syntax_of, variables_of, IsQueryWithin, is_query}
 use Rattle.sparql_walk_laws.specs.Shapes.{symbol}
 use Rattle.sparql_walk_laws.specs.Walks.{Walks, walk_symbol, walked, Stepped}
+use Rattle.sparql_query_laws.specs.Short.{number_small}
 use Rattle.sparql_query_laws.specs.Within.{pattern_within, truth_within}
 use Rattle.sparql_query_laws.specs.Passing.{tree_passes, translated_passes}
-use Rattle.sparql_query_laws.specs.Sound.{Below, LexemeWithin, Left, Step, Owes, KeyWithin, ListWithin, GroupWithin, group_within, WrittenWithin, IsWritten, is_written, names_within, each_passes, keeps}
+use Rattle.sparql_query_laws.specs.Sound.{Below, CutShort, LexemeWithin, Left, Step, Owes, KeyWithin, ListWithin, GroupWithin, group_within, WrittenWithin, IsWritten, is_written, names_within, each_passes, keeps}
 
 -- ---- the place of a name
 
@@ -105,7 +107,7 @@ integer_within n [] = tt
 integer_within n (c ∷ cs) = by (is_digit c)
   where
     by : (b : Bool) → LexemeWithin n (if b then l.Count (integer (c ∷ cs)) (number_of (c ∷ cs)) else l.Literal (integer (c ∷ cs)))
-    by true = tt
+    by true = number_small (c ∷ cs)
     by false = tt
 
 named_within : (n : ℕ) (i local : List ℕ) → LexemeWithin n (named_lexeme i local)
@@ -144,7 +146,7 @@ written_within : (ts : List Token) (w : Written) → Reads grammar (call Query_)
 written_within ts w r =
     let n : ℕ = length (names ts) in
     let start : Left n = record { tokens = lexemes ts; within = lexemes_within nothing [] [] ts } in
-    let all = walked (Step n) (Owes n) (λ (z : Left n). z.tokens) (next n) (keeps n) Query_ start [] (Made (a_query w)) r in
+    let all = walked build (Step n) (Owes n) (λ (z : Left n). z.tokens) (next n) (keeps n) Query_ start [] (Made (a_query w)) r in
     of_written n w (of_walk n start all.to (a_query w) all.walk)
 
 once_within : (n : ℕ) (seen vs : List ℕ) → AllByRecursion (Below n) seen → AllByRecursion (Below n) vs → AllByRecursion (Below n) (once seen vs)
@@ -167,10 +169,35 @@ keys_each : (n : ℕ) (ks : List SortKey) → AllByRecursion (KeyWithin n) ks �
 keys_each n [] h = tt
 keys_each n (x ∷ ks) h = (ltb-true x.var n h.0, keys_each n ks h.1)
 
--- each variable of the query, also of its expressions and of its modifiers, has a name
+-- ---- what is shown is shown once
+
+apart_longer : (seen : List ℕ) (v : ℕ) → IsDistinct (λ x y. x == y) seen → list_any (λ x. x == v) seen ≡ false → IsDistinct (λ x y. x == y) (seen ++ v ∷ [])
+unfolding IsDistinct
+apart_longer [] v h e = (tt, tt)
+apart_longer (x ∷ xs) v h e =
+    let parts = or_parts (x == v) (list_any (λ y. y == v) xs) e in
+    (each-append (λ y. (x == y) ≡ false) xs (v ∷ []) h.0 (parts.0, tt), apart_longer xs v h.1 parts.1)
+
+once_apart : (seen vs : List ℕ) → IsDistinct (λ x y. x == y) seen → IsDistinct (λ x y. x == y) (once seen vs)
+once_apart seen [] h = h
+once_apart seen (v ∷ vs) h = once_apart (if list_any (λ x. x == v) seen then seen else seen ++ v ∷ []) vs (by (list_any (λ x. x == v) seen) refl)
+  where
+    by : (b : Bool) → list_any (λ x. x == v) seen ≡ b → IsDistinct (λ x y. x == y) (if b then seen else seen ++ v ∷ [])
+    by true e = h
+    by false e = apart_longer seen v h e
+
+shown_apart : (o : Option (List ℕ)) (g : Group) → IsDistinct (λ x y. x == y) (shown_of o g)
+unfolding IsDistinct
+shown_apart None g = once_apart [] (variables_of g) tt
+shown_apart (Some vs) g = once_apart [] vs tt
+
+-- ---- the whole query
+
+-- each variable of the query, also of its expressions and of its modifiers, has a name, and each is shown once at most
 pub record HasNames (q : Query) : Type 0 where
   pub tree : tree_passes (pattern_within (length q.names)) (truth_within (length q.names)) q.tree ≡ true
   pub shown : AllByRecursion (λ v. v < length q.names) q.modifiers.shown
+  pub once : IsDistinct (λ x y. x == y) q.modifiers.shown
   pub keys : AllByRecursion (λ (x : SortKey). x.var < length q.names) q.modifiers.keys
 
 syntax_has : (ts : List Token) (w : Written) → WrittenWithin (length (names ts)) w → HasNames (translated (syntax_of (names ts) w))
@@ -179,8 +206,12 @@ syntax_has ts w h =
     record {
       tree = translated_passes (names_within n) w.elements (each_passes n w.elements h.elements);
       shown = below_each n (shown_of w.shown (group_of w.elements)) (shown_within n w.shown (group_of w.elements) h.shown (group_within n w.elements h.elements));
+      once = shown_apart w.shown (group_of w.elements);
       keys = keys_each n w.keys h.keys;
     }
 
-pub query_has_names : (bytes : List ℕ) (q : Query) → IsQuery bytes q → HasNames q
-query_has_names bytes q (is_query ts w long cut quiet reads e) = subst HasNames (sym e) (syntax_has ts w (written_within ts w reads))
+pub query_has_names : (counts : QueryLimit → Bool) (bytes : List ℕ) (q : Query) → IsQueryWithin counts bytes q → HasNames q
+query_has_names counts bytes q (is_query ts w long cut quiet reads e) = subst HasNames (sym e) (syntax_has ts w (written_within ts w reads))
+
+pub cut_is_short : (ts : List Token) (w : Written) → Reads grammar (call Query_) (lexemes ts) (Made (a_query w)) [] → CutShort w.cut
+cut_is_short ts w r = (written_within ts w r).cut

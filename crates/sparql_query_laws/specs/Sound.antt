@@ -1,7 +1,7 @@
 -- Each variable that is read is one of the text's.
-use Rattle.std.specs.Prelude.{◌≡◌, ℕ, Bool, true, false, ◌&&◌, nat_lt, List, [], ◌∷◌, ◌++◌, map, Option, Some, None, refl}
+use Rattle.std.specs.Prelude.{◌≡◌, ◌<◌, ◌^◌, ℕ, Bool, true, false, ◌&&◌, nat_lt, List, [], ◌∷◌, ◌++◌, map, Option, Some, None, refl}
 use Rattle.std.specs.List.{AllByRecursion}
-use Rattle.std.proofs.Common.{sym, ap, ◌∙◌, subst}
+use Rattle.std.proofs.Common.{sym, ap, ◌∙◌, subst, arith}
 use Rattle.std.proofs.lemmas.Bool.{false≢true}
 use Rattle.bags.specs.BagLaws.{each-append}
 use Rattle.grammar_meaning.specs.Grammar.{Leaf, Pair, Made}
@@ -10,7 +10,6 @@ use Rattle.query_meaning.specs.declared.pattern.Slot.{Slot}
 use Rattle.query_meaning.specs.declared.pattern.Slot.TheVariants as slot
 use Rattle.query_meaning.specs.declared.pattern.Pattern.{Pattern}
 use Rattle.query_meaning.specs.declared.expression.ValueExpr.{ValueExpr}
-use Rattle.query_meaning.specs.declared.expression.ValueExpr.TheVariants as values
 use Rattle.query_meaning.specs.declared.expression.TruthExpr.{TruthExpr}
 use Rattle.query_meaning.specs.declared.expression.TruthExpr.TheVariants as truths
 use Rattle.query_meaning.specs.declared.modifiers.Key.{Key as SortKey}
@@ -24,10 +23,10 @@ use Rattle.sparql_grammar_meaning.specs.declared.lexeme.Function.{Function}
 use Rattle.sparql_grammar_meaning.specs.declared.lexeme.Function.TheVariants as f
 use Rattle.sparql_grammar_meaning.specs.declared.lexeme.Lexeme.{Lexeme}
 use Rattle.sparql_grammar_meaning.specs.declared.lexeme.Lexeme.TheVariants as l
-use Rattle.sparql_grammar_meaning.specs.Grammar.{variable, Symbol, Query_, Prologue_, Shown_, Prefix_, Group_, Other_, Triples_, Same_, Objs_, Verb_, Term_, Iri_, Literal_, Cond_, Truth_, And_, Rel_, Compared_, Operator_, Values_, Prim_, Atom_, Value_, Fun_, Test_, Order_, Key_, Slice_, Tail, compares, one_of, none_of, Written, Tree, a_query, a_list, a_slot, an_iri, a_literal, slots, patterns, elements, an_element, a_value, values as value_list, a_tail, a_truth, keys, a_key, Read, build, slots_behind, patterns_of, patterns_behind, patterns_in, group_of, values_behind, truth_in, truths_behind, with_tail, applied, leaf, parts, unions_behind, variables_behind, keys_behind, keys_in}
+use Rattle.sparql_grammar_meaning.specs.Grammar.{variable, Symbol, Query_, Prologue_, Shown_, Prefix_, Group_, Other_, Triples_, Same_, Objs_, Verb_, Term_, Iri_, Literal_, Cond_, Truth_, And_, Rel_, Compared_, Operator_, Values_, Prim_, Atom_, Value_, Fun_, Test_, Order_, Key_, Slice_, Tail, compares, one_of, none_of, Cut, cut_of, a_cut, Written, Tree, a_query, a_list, a_slot, an_iri, a_literal, slots, patterns, elements, an_element, a_value, values as value_list, a_tail, a_truth, keys, a_key, Read, build, slots_behind, patterns_of, patterns_behind, patterns_in, group_of, values_behind, truth_in, truths_behind, with_tail, applied, leaf, parts, unions_behind, variables_behind, keys_behind, keys_in}
 use Rattle.sparql_meaning.specs.Translation.{conjunction}
 use Rattle.sparql_query_meaning.specs.Queries.{element_variables, group_variables, patterns_variables, pattern_variables, slot_variables, joined_lists, variables_of}
-use Rattle.sparql_walk_laws.specs.Shapes.{leaf_variable, leaf_sign, leaf_function, leaf_compare, leaf_test, Shape, token, symbol, both, several, word, maybe, shape}
+use Rattle.sparql_walk_laws.specs.Shapes.{leaf_variable, leaf_count, leaf_sign, leaf_function, leaf_compare, leaf_test, Shape, token, symbol, both, several, word, maybe, shape}
 use Rattle.sparql_walk_laws.specs.Walks.{Walks, walk_empty, walk_token, walk_symbol, walk_both, walk_left, walk_right, walk_several}
 use Rattle.sparql_query_laws.specs.Within.{slot_within, pattern_within, value_within, truth_within, all_true, within-Var, within-Const, within-Str, within-Lang, within-Datatype, within-Value, within-Bound, within-Compare, within-OneOf, within-SameTerm, within-Is, within-Not, within-All, within-Any}
 use Rattle.sparql_query_laws.specs.Passing.{both_true, all_pass, Tests, condition_passes, ElementPasses, GroupPasses, triples_pass, optional_passes, unions_pass, condition_pass, group_passes}
@@ -158,10 +157,26 @@ pub data IsKey (n : ℕ) : Tree → Type 0 where
 pub data AreKeys (n : ℕ) : Tree → Type 0 where
   are_keys : {xs : List SortKey} → AllByRecursion (KeyWithin n) xs → AreKeys n (keys xs)
 
+-- a number of at most 18 digits
+abbrev pub IsShort : ℕ → Type 0
+IsShort i = i < 10 ^ 18
+
+abbrev pub MostShort : Option ℕ → Type 0
+MostShort None = Unit {0}
+MostShort (Some i) = IsShort i
+
+pub record CutShort (x : Cut) : Type 0 where
+  pub skip : IsShort x.skip
+  pub most : MostShort x.most
+
+pub data IsCut : Tree → Type 0 where
+  is_cut : {x : Cut} → CutShort x → IsCut (a_cut x)
+
 pub record WrittenWithin (n : ℕ) (w : Written) : Type 0 where
   pub shown : ListWithin n w.shown
   pub elements : AllByRecursion (ElementWithin n) w.elements
   pub keys : AllByRecursion (KeyWithin n) w.keys
+  pub cut : CutShort w.cut
 
 pub data IsWritten (n : ℕ) : Tree → Type 0 where
   is_written : {w : Written} → WrittenWithin n w → IsWritten n (a_query w)
@@ -192,10 +207,12 @@ Of n Fun_ x = IsValue n x
 Of n Test_ x = IsTruth n x
 Of n Order_ x = AreKeys n x
 Of n Key_ x = IsKey n x
+Of n Slice_ x = IsCut x
 Of n _ x = Unit {0}
 
 abbrev pub LexemeWithin : ℕ → Lexeme → Type 0
 LexemeWithin n (l.Variable i) = Below n i
+LexemeWithin n (l.Count t i) = IsShort i
 LexemeWithin n x = Unit {0}
 
 -- what is left, its variables being within
@@ -446,9 +463,23 @@ module _ (n : ℕ) where
   maybe_order c d m (walk_left (walk_symbol (are_keys h))) = h
   maybe_order c d m (walk_right walk_empty) = tt
 
+  none_short : IsShort 0
+  none_short = omega arith
+
+  no_cut : CutShort (cut_of 0 None)
+  no_cut = record { skip = none_short; most = tt }
+
+  slice_sound : (c d : Left n) (m : Read) → W n (shape Slice_) c d m → IsCut (build Slice_ m)
+  slice_sound c d m (walk_left (walk_both (walk_token leaf_sign k) (walk_both (walk_token leaf_count h) (walk_right walk_empty)))) = is_cut (record { skip = none_short; most = h })
+  slice_sound c d m (walk_left (walk_both (walk_token leaf_sign k) (walk_both (walk_token leaf_count h) (walk_left (walk_both offset (walk_token leaf_count i)))))) = is_cut (record { skip = i; most = h })
+  slice_sound c d m (walk_right (walk_both (walk_token leaf_sign k) (walk_both (walk_token leaf_count h) (walk_right walk_empty)))) = is_cut (record { skip = h; most = tt })
+  slice_sound c d m (walk_right (walk_both (walk_token leaf_sign k) (walk_both (walk_token leaf_count h) (walk_left (walk_both limit (walk_token leaf_count i)))))) = is_cut (record { skip = h; most = i })
+
   query_sound : (c d : Left n) (m : Read) → W n (shape Query_) c d m → IsWritten n (build Query_ m)
-  query_sound c d m (walk_both prologue (walk_both select (walk_both distinct (walk_both (walk_symbol (is_shown x)) (walk_both where_ (walk_both (walk_symbol (are_elements y)) (walk_both {c = a} {d = b} {n = o} order slice))))))) =
-      is_written (record { shown = x; elements = y; keys = maybe_order a b o order })
+  query_sound c d m (walk_both prologue (walk_both select (walk_both distinct (walk_both (walk_symbol (is_shown x)) (walk_both where_ (walk_both (walk_symbol (are_elements y)) (walk_both {c = a} {d = b} {n = o} order (walk_right walk_empty)))))))) =
+      is_written (record { shown = x; elements = y; keys = maybe_order a b o order; cut = no_cut })
+  query_sound c d m (walk_both prologue (walk_both select (walk_both distinct (walk_both (walk_symbol (is_shown x)) (walk_both where_ (walk_both (walk_symbol (are_elements y)) (walk_both {c = a} {d = b} {n = o} order (walk_left (walk_symbol (is_cut z)))))))))) =
+      is_written (record { shown = x; elements = y; keys = maybe_order a b o order; cut = z })
 
   pub keeps : (y : Symbol) (c d : Left n) (m : Read) → W n (shape y) c d m → Of n y (build y m)
   keeps Query_ c d m h = query_sound c d m h
@@ -478,4 +509,4 @@ module _ (n : ℕ) where
   keeps Key_ c d m h = key_sound c d m h
   keeps Prologue_ c d m h = tt
   keeps Prefix_ c d m h = tt
-  keeps Slice_ c d m h = tt
+  keeps Slice_ c d m h = slice_sound c d m h

@@ -1,19 +1,17 @@
-//! What every query of the fragment keeps to.
+//! What the counts along a text say of its query.
 
-ghost use Rattle.std.specs.Prelude.{ℕ, List};
+ghost use Rattle.std.specs.Prelude.{◌≡◌, ℕ, Bool, true, List, Ok};
 ghost use Rattle.query_meaning.specs.declared.query.Query.{Query};
-ghost use Rattle.sparql_query_meaning.specs.Queries.{IsQuery};
-ghost use Rattle.sparql_query_laws.specs.Limits.{HasLimits};
-ghost use Rattle.sparql_query_laws.specs.Names.{HasNames};
+ghost use Rattle.sparql_meaning.specs.declared.token.Token.{Token};
+ghost use Rattle.sparql_meaning.specs.Cut.{cut};
+ghost use Rattle.sparql_query_meaning.specs.declared.refusal.QueryLimit.{QueryLimit};
+ghost use Rattle.sparql_query_meaning.specs.declared.refusal.QueryLimit.TheVariants as limits;
+ghost use Rattle.sparql_query_meaning.specs.Queries.{IsQueryWithin};
+ghost use Rattle.sparql_query_laws.specs.Limits.{CountsAre};
 
-/// Each variable of a query, also of its expressions and of its modifiers, has a name.
-// For the columns of each step of the compiler.
-pub fn variables_have_names()
-    ensures { (bytes : List ℕ) (q : Query) → IsQuery bytes q → HasNames q }
-{}
-
-/// A query has at most 48 patterns, 64 names and 64 keys, and its connectives stand at most 97 deep inside one another.
-// For the stars of a plan, and for the depth of its SQL.
-pub fn limits_are_kept()
-    ensures { (bytes : List ℕ) (q : Query) → IsQuery bytes q → HasLimits q }
+/// Behind the last token of a text that is a query, whichever limits count beside that on depth, the counts are exact: as many
+/// patterns, keys and names as the query has, as many blocks as there are `{`, and no open group.
+// For the limits, which are met by these counts.
+pub fn counts_are_exact()
+    ensures { (counts : QueryLimit → Bool) → counts limits.Depth ≡ true → (bytes : List ℕ) (ts : List Token) (q : Query) → IsQueryWithin counts bytes q → cut bytes ≡ Ok ts → CountsAre ts q }
 {}

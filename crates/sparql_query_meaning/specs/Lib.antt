@@ -3,3 +3,4 @@ pub mod Lexemes
 pub mod Limits
 pub mod Features
 pub mod Queries
+pub mod Fragment

@@ -7,7 +7,7 @@ use Rattle.sparql_meaning.specs.declared.token.TokenKind.TheVariants as k
 use Rattle.sparql_meaning.specs.declared.token.Mark.TheVariants as m
 use Rattle.sparql_meaning.specs.declared.word.Word.TheVariants as w
 use Rattle.sparql_query_meaning.specs.declared.refusal.QueryLimit.{QueryLimit}
-use Rattle.sparql_query_meaning.specs.declared.refusal.QueryLimit.TheVariants.{Patterns, Variables, Groups, Blocks, Depth, Keys, Digits}
+use Rattle.sparql_query_meaning.specs.declared.refusal.QueryLimit.TheVariants.{Query, Patterns, Variables, Groups, Blocks, Depth, Keys, Digits}
 use Rattle.sparql_query_meaning.specs.Prefixes.{Declared, is_declared, Declaring, nothing, begun, declaring, declared}
 use Rattle.sparql_query_meaning.specs.Lexemes.{named_by, is_long}
 
@@ -194,6 +194,18 @@ state_after st t ahead = record {
   keys = keys_after st.role st.keys t;
 }
 
+-- ---- which limits count
+
+-- those of a text that is read
+abbrev pub all_limits : QueryLimit → Bool
+all_limits q = true
+
+-- What a text would spell but for the limits on its bytes and on its groups in all: what is made of a query rests on the others alone.
+abbrev pub all_but_length_and_blocks : QueryLimit → Bool
+all_but_length_and_blocks Query = false
+all_but_length_and_blocks Blocks = false
+all_but_length_and_blocks q = true
+
 -- ---- what is passed
 
 pub data Fault : Type 0 where
@@ -216,24 +228,24 @@ abbrev pub has_long_count : Role → TokenKind → Bool
 has_long_count slice (k.Integer text) = is_long text
 has_long_count r t = false
 
--- the numbers that were just passed, the first one first where several are
-abbrev pub passed : State → State → TokenKind → List QueryLimit
-passed before st t =
-    (if nat_lt 48 st.patterns && nat_lt before.patterns st.patterns then Patterns ∷ [] else [])
-    ++ ((if nat_lt 64 st.keys && nat_lt before.keys st.keys then Keys ∷ [] else [])
-    ++ ((if nat_lt 64 (length st.names) && nat_lt (length before.names) (length st.names) then Variables ∷ [] else [])
-    ++ ((if nat_lt 24 st.groups && nat_lt before.groups st.groups then Groups ∷ [] else [])
-    ++ ((if nat_lt 512 st.blocks && nat_lt before.blocks st.blocks then Blocks ∷ [] else [])
-    ++ ((if nat_lt 48 (depth_of before.role t) then Depth ∷ [] else [])
-    ++ (if has_long_count before.role t then Digits ∷ [] else []))))))
+-- the numbers that count and were just passed, the first one first where several are
+abbrev pub passed : (QueryLimit → Bool) → State → State → TokenKind → List QueryLimit
+passed counts before st t =
+    (if counts Patterns && (nat_lt 48 st.patterns && nat_lt before.patterns st.patterns) then Patterns ∷ [] else [])
+    ++ ((if counts Keys && (nat_lt 64 st.keys && nat_lt before.keys st.keys) then Keys ∷ [] else [])
+    ++ ((if counts Variables && (nat_lt 64 (length st.names) && nat_lt (length before.names) (length st.names)) then Variables ∷ [] else [])
+    ++ ((if counts Groups && (nat_lt 24 st.groups && nat_lt before.groups st.groups) then Groups ∷ [] else [])
+    ++ ((if counts Blocks && (nat_lt 512 st.blocks && nat_lt before.blocks st.blocks) then Blocks ∷ [] else [])
+    ++ ((if counts Depth && nat_lt 48 (depth_of before.role t) then Depth ∷ [] else [])
+    ++ (if counts Digits && has_long_count before.role t then Digits ∷ [] else []))))))
 
 abbrev pub first_limit : List QueryLimit → Option Fault
 first_limit [] = None
 first_limit (q ∷ qs) = Some (limit q)
 
 -- a prefix goes before a limit
-abbrev pub fault_at : State → TokenKind → Option TokenKind → Option Fault
-fault_at st t ahead = if is_unknown st st.declaring t then Some unknown_prefix else first_limit (passed st (state_after st t ahead) t)
+abbrev pub fault_at : (QueryLimit → Bool) → State → TokenKind → Option TokenKind → Option Fault
+fault_at counts st t ahead = if is_unknown st st.declaring t then Some unknown_prefix else first_limit (passed counts st (state_after st t ahead) t)
 
 abbrev pub next_kind : List Token → Option TokenKind
 next_kind [] = None
@@ -252,9 +264,10 @@ abbrev pub fault_or : Option Fault → Option FaultAt → Option FaultAt
 fault_or None later = one_later later
 fault_or (Some f) later = Some (record { before = 0; fault = f })
 
-abbrev pub fault_from : State → List Token → Option FaultAt
-fault_from st [] = None
-fault_from st (t ∷ ts) = fault_or (fault_at st t.kind (next_kind ts)) (fault_from (state_after st t.kind (next_kind ts)) ts)
+abbrev pub fault_from : (QueryLimit → Bool) → State → List Token → Option FaultAt
+fault_from counts st [] = None
+fault_from counts st (t ∷ ts) = fault_or (fault_at counts st t.kind (next_kind ts)) (fault_from counts (state_after st t.kind (next_kind ts)) ts)
 
+-- where all limits count
 abbrev pub first_fault : List Token → Option FaultAt
-first_fault ts = fault_from nothing_yet ts
+first_fault ts = fault_from all_limits nothing_yet ts

@@ -1,5 +1,5 @@
 -- A query of the fragment, and why and where a text is none.
-use Rattle.std.specs.Prelude.{◌≡◌, ◌≤◌, ◌<◌, ◌==◌, ℕ, zero, suc, ◌+◌, if◌then◌else◌, List, [], ◌∷◌, ◌++◌, length, Option, Some, None, Ok, Err}
+use Rattle.std.specs.Prelude.{Bool, true, false, ◌≡◌, ◌≤◌, ◌<◌, ◌==◌, ℕ, zero, suc, ◌+◌, if◌then◌else◌, List, [], ◌∷◌, ◌++◌, length, Option, Some, None, Ok, Err}
 use Rattle.std.specs.List.{list_any}
 use Rattle.grammar_meaning.specs.Grammar.{call, Made, Reads, Front}
 use Rattle.grammar_meaning.specs.Parts.{BreaksFirst}
@@ -20,12 +20,13 @@ use Rattle.sparql_meaning.specs.Cut.{cut}
 use Rattle.sparql_meaning.specs.Translation.{translated}
 use Rattle.sparql_grammar_meaning.specs.declared.lexeme.Lexeme.{Lexeme}
 use Rattle.sparql_grammar_meaning.specs.Grammar.{Query_, grammar, a_query, Written, group_of}
+use Rattle.sparql_query_meaning.specs.declared.refusal.QueryLimit.{QueryLimit}
 use Rattle.sparql_query_meaning.specs.declared.refusal.QueryLimit.TheVariants as limits
 use Rattle.sparql_query_meaning.specs.declared.refusal.QueryRefusal.{QueryRefusal}
 use Rattle.sparql_query_meaning.specs.declared.refusal.QueryRefusal.TheVariants.{NotInFragment, UnknownPrefix, Limit}
 use Rattle.sparql_query_meaning.specs.declared.refusal.QueryRefusal.TheVariants as refusal
 use Rattle.sparql_query_meaning.specs.Lexemes.{lexemes, names}
-use Rattle.sparql_query_meaning.specs.Limits.{Fault, unknown_prefix, limit, FaultAt, first_fault}
+use Rattle.sparql_query_meaning.specs.Limits.{all_limits, Fault, unknown_prefix, limit, FaultAt, nothing_yet, fault_from, first_fault}
 use Rattle.sparql_query_meaning.specs.Features.{feature}
 
 abbrev pub most_bytes : ℕ
@@ -120,10 +121,24 @@ syntax_of ns w = record {
 
 -- ---- queries
 
--- the text is cut into tokens that the grammar reads, each prefix is declared before its use, and no limit is passed
-pub data IsQuery (bytes : List ℕ) (q : Query) : Type 0 where
-  is_query : (ts : List Token) (w : Written) → length bytes ≤ most_bytes → cut bytes ≡ Ok ts → first_fault ts ≡ None
-      → Reads grammar (call Query_) (lexemes ts) (Made (a_query w)) [] → q ≡ translated (syntax_of (names ts) w) → IsQuery bytes q
+-- the text isn't too long, where its length counts
+abbrev pub HasLength : Bool → List ℕ → Type 0
+HasLength true bytes = length bytes ≤ most_bytes
+HasLength false bytes = Unit {0}
+
+-- the text is cut into tokens that the grammar reads, each prefix is declared before its use, and no limit that counts is passed
+pub data IsQueryWithin (counts : QueryLimit → Bool) (bytes : List ℕ) (q : Query) : Type 0 where
+  is_query : (ts : List Token) (w : Written) → HasLength (counts limits.Query) bytes → cut bytes ≡ Ok ts → fault_from counts nothing_yet ts ≡ None
+      → Reads grammar (call Query_) (lexemes ts) (Made (a_query w)) [] → q ≡ translated (syntax_of (names ts) w) → IsQueryWithin counts bytes q
+
+-- the text is this query: all limits count
+abbrev pub IsQuery : List ℕ → Query → Type 0
+IsQuery bytes q = IsQueryWithin all_limits bytes q
+
+-- the text is this query, and no other
+pub record IsTheQuery (bytes : List ℕ) (q : Query) : Type 0 where
+  pub is : IsQuery bytes q
+  pub only : (p : Query) → IsQuery bytes p → p ≡ q
 
 -- ---- refusals
 

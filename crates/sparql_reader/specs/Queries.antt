@@ -5,21 +5,17 @@ use Rattle.query_meaning.specs.declared.query.Query.{Query}
 use Rattle.sparql_meaning.specs.Translation.{translated}
 use Rattle.sparql_query_meaning.specs.declared.refusal.QueryRefusal.{QueryRefusal}
 use Rattle.sparql_query_meaning.specs.declared.refusal.QueryRefusal.TheVariants as refusal
-use Rattle.sparql_query_meaning.specs.Queries.{IsQuery}
+use Rattle.sparql_query_meaning.specs.Queries.{IsQuery, IsTheQuery}
 use Rattle.sparql_refusals.specs.Outcomes.{ReadsAs, Refuses, no_memory, refuses}
-use Rattle.sparql_refusals.specs.Laws.{queries_are_not_refused, query_read, query_only}
-
--- the text is this query of the fragment, and no other
-pub record ReadsQuery (bytes : List ℕ) (q : Query) : Type 0 where
-  pub is : IsQuery bytes q
-  pub only : (p : Query) → IsQuery bytes p → p ≡ q
+use Rattle.sparql_refusals.specs.Laws.{queries_are_not_refused, query_read}
+use Rattle.sparql_reading_laws.proofs.OneReading.{texts_are_one_query}
 
 -- save where memory is wanting, the text is no query of the fragment
 pub record IsNoQuery (bytes : List ℕ) (r : QueryRefusal) : Type 0 where
   pub none : (r ≡ refusal.NoMemory → ⊥) → (q : Query) → IsQuery bytes q → ⊥
 
-pub query_translated : (bytes : List ℕ) (s : Syntax) (q : Query) → ReadsAs bytes s → q ≡ translated s → ReadsQuery bytes q
-query_translated bytes s q r e = record { is = query_read bytes s q r e; only = query_only bytes s q r e }
+pub query_translated : (bytes : List ℕ) (s : Syntax) (q : Query) → ReadsAs bytes s → q ≡ translated s → IsTheQuery bytes q
+query_translated bytes s q r e = let is = query_read bytes s q r e in record { is = is; only = λ p i. texts_are_one_query bytes p q i is }
 
 pub refused_is_none : (bytes : List ℕ) (r : QueryRefusal) → Refuses bytes r → IsNoQuery bytes r
 refused_is_none bytes r no_memory = record { none = λ memory q i. absurd (memory refl) }

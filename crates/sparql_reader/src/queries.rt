@@ -2,7 +2,8 @@
 
 ghost use Rattle.std.specs.Prelude.{IfOk, IfErr};
 ghost use Rattle.sparql_refusals.specs.Outcomes.{Refuses};
-ghost use Rattle.sparql_reader.specs.Queries.{ReadsQuery, IsNoQuery};
+ghost use Rattle.sparql_query_meaning.specs.Queries.{IsTheQuery};
+ghost use Rattle.sparql_reader.specs.Queries.{IsNoQuery};
 
 use crate::reading::read_syntax;
 use query_meaning::Query;
@@ -14,7 +15,7 @@ use std::alloc::Global;
 /// text is refused exactly where it is no query, at the place and for the reason that `read_syntax` names.
 #[tactic(auto, using(crate::specs::Queries::query_paths))]
 pub fn read_query(alloc: Global, bytes: &[u8]) -> Result<Query, QueryRefusal>
-    ensures reads { IfOk result (λ q. ReadsQuery bytes.now q) }
+    ensures reads { IfOk result (λ q. IsTheQuery bytes.now q) }
     ensures refuses { IfErr result (λ r. Refuses bytes.now r) }
     ensures none { IfErr result (λ r. IsNoQuery bytes.now r) }
 {

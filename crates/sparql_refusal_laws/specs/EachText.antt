@@ -1,4 +1,4 @@
--- No text is neither a query nor refused.
+-- No text is neither the one query that it is nor refused.
 use Rattle.std.proofs.Common.{ℕ, zero, suc, ◌≡◌, ◌+◌, ◌-◌, ◌≤◌, ◌<◌, nat_lt, Bool, true, false, List, [], ◌∷◌, length, drop, Option, None, Some, Result, Ok, Err, refl, sym, ap, subst, arith}
 use Rattle.std.proofs.lemmas.List.{length-drop}
 use Rattle.grammar_meaning.specs.Grammar.{Form, ◌⨾◌, maybe, Node, Pair, call, Made, Grammar, Reads, read_rule, read_both, Front, front_empty}
@@ -16,12 +16,13 @@ use Rattle.sparql_query_meaning.specs.declared.refusal.QueryRefusal.{QueryRefusa
 use Rattle.sparql_query_meaning.specs.declared.refusal.QueryRefusal.TheVariants as refusal
 use Rattle.sparql_query_meaning.specs.Prefixes.{nothing}
 use Rattle.sparql_query_meaning.specs.Lexemes.{lexemes, names}
-use Rattle.sparql_query_meaning.specs.Limits.{FaultAt, first_fault, nothing_yet}
-use Rattle.sparql_query_meaning.specs.Queries.{most_bytes, syntax_of, broken_at, faulty_at, NoFaultBefore, IsQuery, is_query, QueryRefused, too_long, bad_place, broken, faulty}
+use Rattle.sparql_query_meaning.specs.Limits.{all_limits, FaultAt, first_fault, nothing_yet}
+use Rattle.sparql_query_meaning.specs.Queries.{most_bytes, syntax_of, broken_at, faulty_at, NoFaultBefore, IsQuery, is_query, IsTheQuery, QueryRefused, too_long, bad_place, broken, faulty}
+use Rattle.sparql_reading_laws.proofs.OneReading.{texts_are_one_query}
 use Rattle.sparql_refusals.specs.Fronts.{lexemes_count, fault_within}
 
 abbrev pub NoTextIsNeither : Type 0
-NoTextIsNeither = (bytes : List ℕ) → ((q : Query) → IsQuery bytes q → ⊥) → ((r : QueryRefusal) → QueryRefused bytes r → ⊥) → ⊥
+NoTextIsNeither = (bytes : List ℕ) → ((q : Query) → IsTheQuery bytes q → ⊥) → ((r : QueryRefusal) → QueryRefused bytes r → ⊥) → ⊥
 
 below : (a b : ℕ) → nat_lt a b ≡ true → a < b
 below a b h = grind arith
@@ -132,7 +133,7 @@ behind ts f = drop (f.before + 1) (lexemes ts)
 
 length_behind : (ts : List Token) (f : FaultAt) → first_fault ts ≡ Some f → 1 + f.before + length (behind ts f) ≡ length ts
 length_behind ts f h =
-    let k = fault_within nothing_yet ts f h in
+    let k = fault_within all_limits nothing_yet ts f h in
     let c = lexemes_count nothing [] [] ts in
     let d = length-drop (f.before + 1) (lexemes ts) in
     omega (arith, k, c, d)
@@ -159,10 +160,13 @@ a_fault bytes ts f l c h nr none unread (u ∷ us) a le = by (nat_lt (length (be
 pub no_text_is_neither : NoTextIsNeither
 no_text_is_neither bytes nq nr = by_length (nat_lt most_bytes (length bytes)) refl
   where
+    no_query : (q : Query) → IsQuery bytes q → ⊥
+    no_query q i = nq q (record { is = i; only = λ p h. texts_are_one_query bytes p q h i })
+
     reads : (ts : List Token) → length bytes ≤ most_bytes → cut bytes ≡ Ok ts → first_fault ts ≡ None → (x : Piece) → Reads grammar (call Query_) (lexemes ts) x [] → ⊥
     reads ts l c h x r =
         let m = made_query (lexemes ts) [] x r in
-        nq (translated (syntax_of (names ts) m.0)) (is_query ts m.0 l c h (subst (λ (z : Piece). Reads grammar (call Query_) (lexemes ts) z []) m.1 r) refl)
+        no_query (translated (syntax_of (names ts) m.0)) (is_query ts m.0 l c h (subst (λ (z : Piece). Reads grammar (call Query_) (lexemes ts) z []) m.1 r) refl)
 
     by_fault : (ts : List Token) → length bytes ≤ most_bytes → cut bytes ≡ Ok ts → (o : Option FaultAt) → first_fault ts ≡ o → ⊥
     by_fault ts l c None h = no_fault bytes ts l c h nr (reads ts l c h) (lexemes ts) front_empty

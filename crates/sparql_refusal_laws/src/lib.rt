@@ -3,7 +3,7 @@
 
 ghost use Rattle.sparql_refusal_laws.specs.EachText.{NoTextIsNeither};
 
-/// No text is neither a query of the fragment nor refused.
+/// No text is neither the one query of the fragment that it is nor refused.
 // With the laws that no query is refused and that a text is refused in one way: each text is one query, or has one refusal.
 #[tactic(auto, using(crate::specs::EachText::no_text_is_neither))]
 pub fn no_text_is_neither()

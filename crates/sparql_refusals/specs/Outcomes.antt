@@ -15,7 +15,7 @@ use Rattle.sparql_query_meaning.specs.declared.refusal.QueryRefusal.{QueryRefusa
 use Rattle.sparql_query_meaning.specs.declared.refusal.QueryRefusal.TheVariants as refusal
 use Rattle.sparql_query_meaning.specs.Prefixes.{nothing}
 use Rattle.sparql_query_meaning.specs.Lexemes.{lexemes, names}
-use Rattle.sparql_query_meaning.specs.Limits.{FaultAt, first_fault, nothing_yet}
+use Rattle.sparql_query_meaning.specs.Limits.{all_limits, FaultAt, first_fault, nothing_yet}
 use Rattle.sparql_query_meaning.specs.Queries.{most_bytes, syntax_of, broken_at, faulty_at, NoFaultBefore, QueryRefused, too_long, bad_place, broken, faulty}
 use Rattle.sparql_cursor.specs.Outcomes.{IsText, is_text, Rejects, rejects_at}
 use Rattle.sparql_cursor.specs.declared.refusal.Refusal.TheVariants as inner
@@ -30,7 +30,7 @@ abbrev pub read_front : List Token → ℕ
 read_front ts = up_to (length ts) (first_fault ts)
 
 pub front_within : (ts : List Token) (f : FaultAt) → first_fault ts ≡ Some f → f.before + 1 ≤ length ts
-front_within ts f h = let k = fault_within nothing_yet ts f h in omega (arith, k)
+front_within ts f h = let k = fault_within all_limits nothing_yet ts f h in omega (arith, k)
 
 -- the refusal where so many of the tokens that were read are left
 abbrev pub refusal_by : List ℕ → List Token → (read left : ℕ) → Option FaultAt → QueryRefusal

@@ -1,20 +1,24 @@
 -- What is read, walked through token by token: a walk goes from place to place, and each symbol on the way keeps what it owes.
 use Rattle.std.proofs.Common.{ap, subst}
 use Rattle.std.specs.Prelude.{Bool, IsTrue, List, ◌∷◌, ◌≡◌, refl}
-use Rattle.grammar_meaning.specs.Grammar.{Form, nothing, one, call, ◌⨾◌, ◌∣◌, many, Nil, Leaf, Pair, Made, Reads, read_nothing, read_one, read_rule, read_both, read_left, read_right, read_many}
+use Rattle.grammar_meaning.specs.Grammar.{Form, nothing, one, call, ◌⨾◌, ◌∣◌, many, Node, Nil, Leaf, Pair, Made, Grammar, Reads, read_nothing, read_one, read_rule, read_both, read_left, read_right, read_many}
 use Rattle.sparql_grammar_meaning.specs.declared.lexeme.Lexeme.{Lexeme}
-use Rattle.sparql_grammar_meaning.specs.Grammar.{Kind, kind, is, rule, Symbol, Tree, Read, build, grammar}
+use Rattle.sparql_grammar_meaning.specs.Grammar.{Kind, kind, is, rule, Symbol}
 use Rattle.sparql_walk_laws.specs.Shapes.{Leaves, leaf_is, Shape, empty, token, symbol, both, either, several, form, shape, rule_form}
 
+-- the grammar with other trees
+abbrev pub making : {X : Type 0} → (Symbol → Node Lexeme X → X) → Grammar
+making {X} build = record { Symbol = Symbol; Kind = Kind; Token = Lexeme; Tree = X; kind = kind; rule = rule; build = build }
+
 -- a walk over a shape, from a place to a place, and what it read
-pub data Walks {C : Type 0} (Step : C → Lexeme → C → Type 0) (Owes : Symbol → C → C → Tree → Type 0) : Shape → C → C → Read → Type 0 where
+pub data Walks {C X : Type 0} (Step : C → Lexeme → C → Type 0) (Owes : Symbol → C → C → X → Type 0) : Shape → C → C → Node Lexeme X → Type 0 where
   walk_empty : {c : C} → Walks Step Owes empty c c Nil
   walk_token : {a : Kind} {c d : C} {x : Lexeme} → Leaves a x → Step c x d → Walks Step Owes (token a) c d (Leaf x)
-  walk_symbol : {s : Symbol} {c d : C} {x : Tree} → Owes s c d x → Walks Step Owes (symbol s) c d (Made x)
-  walk_both : {f g : Shape} {c d e : C} {n m : Read} → Walks Step Owes f c d n → Walks Step Owes g d e m → Walks Step Owes (both f g) c e (Pair n m)
-  walk_left : {f g : Shape} {c d : C} {n : Read} → Walks Step Owes f c d n → Walks Step Owes (either f g) c d n
-  walk_right : {f g : Shape} {c d : C} {n : Read} → Walks Step Owes g c d n → Walks Step Owes (either f g) c d n
-  walk_several : {f : Shape} {c d : C} {n : Read} → Walks Step Owes (either (both f (several f)) empty) c d n → Walks Step Owes (several f) c d n
+  walk_symbol : {s : Symbol} {c d : C} {x : X} → Owes s c d x → Walks Step Owes (symbol s) c d (Made x)
+  walk_both : {f g : Shape} {c d e : C} {n m : Node Lexeme X} → Walks Step Owes f c d n → Walks Step Owes g d e m → Walks Step Owes (both f g) c e (Pair n m)
+  walk_left : {f g : Shape} {c d : C} {n : Node Lexeme X} → Walks Step Owes f c d n → Walks Step Owes (either f g) c d n
+  walk_right : {f g : Shape} {c d : C} {n : Node Lexeme X} → Walks Step Owes g c d n → Walks Step Owes (either f g) c d n
+  walk_several : {f : Shape} {c d : C} {n : Node Lexeme X} → Walks Step Owes (either (both f (several f)) empty) c d n → Walks Step Owes (several f) c d n
 
 -- a step to what is left
 pub record Stepped {C : Type 0} (Step : C → Lexeme → C → Type 0) (left : C → List Lexeme) (c : C) (x : Lexeme) (xs : List Lexeme) : Type 0 where
@@ -23,7 +27,7 @@ pub record Stepped {C : Type 0} (Step : C → Lexeme → C → Type 0) (left : C
   pub rest : left to ≡ xs
 
 -- a walk to what is left
-pub record Walked {C : Type 0} (Step : C → Lexeme → C → Type 0) (Owes : Symbol → C → C → Tree → Type 0) (left : C → List Lexeme) (f : Shape) (c : C) (n : Read) (us : List Lexeme) : Type 0 where
+pub record Walked {C X : Type 0} (Step : C → Lexeme → C → Type 0) (Owes : Symbol → C → C → X → Type 0) (left : C → List Lexeme) (f : Shape) (c : C) (n : Node Lexeme X) (us : List Lexeme) : Type 0 where
   pub to : C
   pub walk : Walks Step Owes f c to n
   pub rest : left to ≡ us
@@ -57,13 +61,13 @@ same_right e = cc
 same_many : {f g : Form Symbol Kind} → many f ≡ many g → f ≡ g
 same_many e = cc
 
-module _ {C : Type 0} (Step : C → Lexeme → C → Type 0) (Owes : Symbol → C → C → Tree → Type 0) (left : C → List Lexeme) (next : (c : C) (x : Lexeme) (xs : List Lexeme) → left c ≡ x ∷ xs → Stepped Step left c x xs)
-    (keeps : (s : Symbol) (c d : C) (n : Read) → Walks Step Owes (shape s) c d n → Owes s c d (build s n)) where
-  at_symbol : (s : Symbol) (c : C) (n : Read) (us : List Lexeme) → Walked Step Owes left (shape s) c n us → Walked Step Owes left (symbol s) c (Made (build s n)) us
+module _ {C X : Type 0} (build : Symbol → Node Lexeme X → X) (Step : C → Lexeme → C → Type 0) (Owes : Symbol → C → C → X → Type 0) (left : C → List Lexeme) (next : (c : C) (x : Lexeme) (xs : List Lexeme) → left c ≡ x ∷ xs → Stepped Step left c x xs)
+    (keeps : (s : Symbol) (c d : C) (n : Node Lexeme X) → Walks Step Owes (shape s) c d n → Owes s c d (build s n)) where
+  at_symbol : (s : Symbol) (c : C) (n : Node Lexeme X) (us : List Lexeme) → Walked Step Owes left (shape s) c n us → Walked Step Owes left (symbol s) c (Made (build s n)) us
   at_symbol s c n us w = record { to = w.to; walk = walk_symbol (keeps s c w.to n w.walk); rest = w.rest }
 
   -- what is read is walked through
-  walked_form : (f : Shape) (v : Form Symbol Kind) (c : C) (ts us : List Lexeme) (n : Read) → v ≡ form f → left c ≡ ts → Reads grammar v ts n us → Walked Step Owes left f c n us
+  walked_form : (f : Shape) (v : Form Symbol Kind) (c : C) (ts us : List Lexeme) (n : Node Lexeme X) → v ≡ form f → left c ≡ ts → Reads (making build) v ts n us → Walked Step Owes left f c n us
   walked_form empty v c ts us n i e read_nothing = record { to = c; walk = walk_empty; rest = e }
   walked_form (token a) v c ts us n i e (read_one {p = p} {t = x} h) =
       let y = next c x us e in
@@ -81,5 +85,5 @@ module _ {C : Type 0} (Step : C → Lexeme → C → Type 0) (Owes : Symbol → 
       record { to = x.to; walk = walk_several x.walk; rest = x.rest }
   walked_form f v c ts us n i e r = absurd cc
 
-  pub walked : (s : Symbol) (c : C) (us : List Lexeme) (n : Read) → Reads grammar (call s) (left c) n us → Walked Step Owes left (symbol s) c n us
+  pub walked : (s : Symbol) (c : C) (us : List Lexeme) (n : Node Lexeme X) → Reads (making build) (call s) (left c) n us → Walked Step Owes left (symbol s) c n us
   walked s c us n r = walked_form (symbol s) (call s) c (left c) us n refl refl r

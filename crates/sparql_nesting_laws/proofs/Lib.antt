@@ -1,0 +1,8 @@
+mod Spots
+mod Again
+mod Kept
+mod Groups
+mod Roles
+mod Expressions
+mod Depths
+mod Limits

@@ -1,0 +1,3 @@
+mod Merged
+mod Operands
+pub mod OneReading

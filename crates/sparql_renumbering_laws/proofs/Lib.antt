@@ -1,0 +1,3 @@
+mod Expressions
+mod Trees
+pub mod Fragment

@@ -11,8 +11,8 @@ use Rattle.pred_columns.specs.Refusal.{refusal_of}
 use Rattle.colouring_file_meaning.specs.ColourLines.{ColourOf, columns_on, same_side, same_place}
 use Rattle.colouring_file.specs.Colours.{colour_of}
 use Rattle.colouring_file.specs.declared.colours.ColourLine.{ColourLine}
-use Rattle.colouring_file_column_laws.specs.Pairs.{same_iri}
-use Rattle.colouring_file_column_laws.proofs.Faults.{fit_taken}
+use Rattle.colouring_file_laws.specs.Pairs.{same_iri}
+use Rattle.colouring_file_laws.proofs.Faults.{fit_taken}
 use Rattle.layout_choice.specs.Chosen.{pair_of, pairs_on}
 use Rattle.layout_choice.specs.Fit.{FitColoursAreTaken, OtherWaysAreTaken}
 

@@ -1,5 +1,6 @@
 -- What is chosen of a layout, and when it is refused (this project's own).
-use Rattle.std.specs.Prelude.{ℕ, Bool, true, false, if◌then◌else◌, List, [], ◌∷◌, map, Option, None, Some}
+use Rattle.std.specs.Prelude.{ℕ, Bool, true, false, if◌then◌else◌, List, [], ◌∷◌, map, Option}
+use Rattle.std.specs.Option.{option_or}
 use Rattle.rdf_meaning.specs.declared.side.SideName.{SideName}
 use Rattle.rdf_meaning.specs.declared.side.SideName.TheVariants.{Direct, Reverse}
 use Rattle.layout_meaning.specs.Columns.{ColumnsOf}
@@ -48,11 +49,6 @@ choice_made direct reverse hashes way = record {
   greedy = colours_bulk way;
 }
 
--- the first refusal of two
-abbrev pub first_refusal : Option ColumnRefusal → Option ColumnRefusal → Option ColumnRefusal
-first_refusal None second = second
-first_refusal (Some refusal) second = Some refusal
-
 -- the direct side is judged first
 abbrev pub refusal_chosen : ℕ → ℕ → ℕ → ColourWay → Option ColumnRefusal
-refusal_chosen direct reverse hashes way = first_refusal (refusal_of direct hashes (direct_pairs way)) (refusal_of reverse hashes (reverse_pairs way))
+refusal_chosen direct reverse hashes way = option_or (refusal_of direct hashes (direct_pairs way)) (refusal_of reverse hashes (reverse_pairs way))

@@ -22,7 +22,7 @@ use Rattle.layout_standing_meaning.proofs.Terms.{id-numbered, term_at-has}
 use Rattle.layout_store_laws.proofs.Same.{known-term}
 use Rattle.layout_stats_laws.proofs.Counts.{spilled-same}
 use Rattle.layout_stats_laws.proofs.Says.{says}
-use Rattle.layout_facts_meaning.specs.Facts.{is_spilled_term, id_told, ids_told, AreFacts, AreIds, store_facts, store_ids}
+use Rattle.layout_facts_meaning.specs.Facts.{is_spilled_term, id_told, ids_told, terms_named, facts_told, AreFacts, AreIds, HaveFacts, store_facts, store_ids}
 
 pub id-is : (terms : List RdfTerm) (t : RdfTerm) (n : ℕ) → IsDistinct same_term terms → HasId terms t n → n ≡ id_of (entries_of terms) t
 id-is terms t n d h = (let a = h.0 in let k : 1 + (n - 1) ≡ n = omega arith in sym (id-numbered 1 (n - 1) t terms d h.1 ∙ k))
@@ -115,3 +115,16 @@ facts-told s preds h = record { contents = contents_of s.direct.state s.reverse.
 
 pub ids-told : (s : StoreOf) (terms : List RdfTerm) → IsStore s → AreIds (layout_of s) (tables_of s) (stored_triples s) terms (store_ids s terms)
 ids-told s terms h = record { contents = contents_of s.direct.state s.reverse.state s.terms; exact_tables = tables s; same_triples = says s h; told = refl }
+
+named : (es : List Entry) (terms : List RdfTerm) → terms_named (ids_told es terms) ≡ terms
+named es [] = refl
+named es (t ∷ terms) = ap (λ (l : List RdfTerm). t ∷ l) (named es terms)
+
+pub both-told : (s : StoreOf) (terms : List RdfTerm) → IsStore s → HaveFacts (layout_of s) (tables_of s) (stored_triples s) (store_ids s terms) (store_facts s terms)
+both-told s terms h = record {
+  contents = contents_of s.direct.state s.reverse.state s.terms;
+  exact_tables = tables s;
+  same_triples = says s h;
+  same_ids = ap (ids_told (entries_of s.terms)) (sym (named (entries_of s.terms) terms));
+  same_facts = ap (facts_told (layout_of s) (contents_of s.direct.state s.reverse.state s.terms)) (sym (named (entries_of s.terms) terms));
+}

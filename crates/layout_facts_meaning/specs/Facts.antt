@@ -59,7 +59,14 @@ store_facts s preds = facts_told (layout_of s) (store_contents s) preds
 abbrev pub store_ids : StoreOf → List RdfTerm → List IdOf
 store_ids s terms = ids_told (store_contents s).terms terms
 
--- tables that stand for triples have these ids and these facts: over the terms that the ids name, both are theirs
+-- the terms that ids name
+abbrev pub terms_named : List IdOf → List RdfTerm
+terms_named ids = map (λ (i : IdOf). i.term) ids
+
+-- Tables that stand for triples have these ids and these facts: over the terms that the ids name, both are told of one contents.
 pub record HaveFacts (layout : LayoutOf) (tables : List NamedTable) (g : List RdfTriple) (ids : List IdOf) (facts : FactsOf) : Type 0 where
-  pub same_ids : AreIds layout tables g (map (λ (i : IdOf). i.term) ids) ids
-  pub same_facts : AreFacts layout tables g (map (λ (i : IdOf). i.term) ids) facts
+  pub contents : Contents
+  pub exact_tables : AreTables layout contents tables
+  pub same_triples : Says layout contents g
+  pub same_ids : ids ≡ ids_told contents.terms (terms_named ids)
+  pub same_facts : facts ≡ facts_told layout contents (terms_named ids)

@@ -1,18 +1,22 @@
--- Equal bags of triples have the same statistics.
+-- What is said, told and counted of equal bags of triples.
 use Rattle.std.proofs.Common.{◌≡◌, ◌⊎◌, ◌≤◌, ◌||◌, ℕ, Bool, true, false, List, [], ◌∷◌, map, length, refl, sym, ap, ◌∙◌, inl, inr, subst}
 use Rattle.std.specs.List.{list_any, AllByRecursion}
 use Rattle.std.proofs.lemmas.Bool.{cases_Bool, true≢false}
 use Rattle.bags.specs.Bag.{SameBag}
 use Rattle.bags.specs.BagLaws.{same-trans, same-map, same-length, same-any}
-use Rattle.rdf_meaning.specs.Terms.{RdfTriple, same_triple}
+use Rattle.rdf_meaning.specs.Terms.{RdfTerm, RdfTriple, same_triple}
 use Rattle.rdf_meaning.specs.TermLaws.{same_triple-is, same_triple-self}
 use Rattle.table_meaning.specs.Tables.{NamedTable}
+use Rattle.layout_meaning.specs.Facts.{FactsOf, IdOf, CountsOf}
 use Rattle.layout_meaning.specs.Sound.{one_if}
 use Rattle.layout_standing_meaning.specs.Dictionary.{HasIds, IsTriple, id_of}
 use Rattle.layout_standing_meaning.specs.Schemas.{LayoutOf}
 use Rattle.layout_standing_meaning.specs.Contents.{Contents, direct_item, reverse_item}
-use Rattle.layout_standing_meaning.specs.Standing.{Says}
+use Rattle.layout_standing_meaning.specs.Standing.{Says, StandsFor}
 use Rattle.layout_stats_meaning.specs.Statistics.{StatsOf, AreStats}
+use Rattle.layout_facts_meaning.specs.Facts.{AreFacts, AreIds}
+use Rattle.layout_counts_meaning.specs.Counts.{AreCounts}
+use Rattle.layout_counts_meaning.proofs.Bags.{counted-same}
 
 or_right : (a b : Bool) → b ≡ true → (a || b) ≡ true
 or_right true b h = refl
@@ -37,7 +41,7 @@ of_members P (t ∷ ts) h = (
 each-same : (P : RdfTriple → Type 0) (g h : List RdfTriple) → SameBag g h → AllByRecursion P g → AllByRecursion P h
 each-same P g h same all = of_members P h (λ z e. member P g all z (same-any (same_triple z) g h same ∙ e))
 
-same-says : (layout : LayoutOf) (c : Contents) (g h : List RdfTriple) → SameBag g h → Says layout c g → Says layout c h
+pub same-says : (layout : LayoutOf) (c : Contents) (g h : List RdfTriple) → SameBag g h → Says layout c g → Says layout c h
 same-says layout c g h same says = record {
   own_terms = says.own_terms;
   direct_side = says.direct_side;
@@ -60,4 +64,35 @@ same-stats layout tables g h stats same are = record {
   terms = are.terms;
   direct = are.direct;
   reverse = are.reverse;
+}
+
+pub same-standing : (layout : LayoutOf) (tables : List NamedTable) (g h : List RdfTriple) → SameBag g h → StandsFor layout tables g → StandsFor layout tables h
+same-standing layout tables g h same stands = record {
+  contents = stands.contents;
+  exact_tables = stands.exact_tables;
+  same_triples = same-says layout stands.contents g h same stands.same_triples;
+}
+
+pub same-facts : (layout : LayoutOf) (tables : List NamedTable) (g h : List RdfTriple) (preds : List RdfTerm) (facts : FactsOf) → SameBag g h → AreFacts layout tables g preds facts → AreFacts layout tables h preds facts
+same-facts layout tables g h preds facts same are = record {
+  contents = are.contents;
+  exact_tables = are.exact_tables;
+  same_triples = same-says layout are.contents g h same are.same_triples;
+  told = are.told;
+}
+
+pub same-ids : (layout : LayoutOf) (tables : List NamedTable) (g h : List RdfTriple) (terms : List RdfTerm) (ids : List IdOf) → SameBag g h → AreIds layout tables g terms ids → AreIds layout tables h terms ids
+same-ids layout tables g h terms ids same are = record {
+  contents = are.contents;
+  exact_tables = are.exact_tables;
+  same_triples = same-says layout are.contents g h same are.same_triples;
+  told = are.told;
+}
+
+pub same-counts : (layout : LayoutOf) (tables : List NamedTable) (g h : List RdfTriple) (terms : List RdfTerm) (counts : CountsOf) → SameBag g h → AreCounts layout tables g terms counts → AreCounts layout tables h terms counts
+same-counts layout tables g h terms counts same are = record {
+  contents = are.contents;
+  exact_tables = are.exact_tables;
+  same_triples = same-says layout are.contents g h same are.same_triples;
+  counted = are.counted ∙ counted-same g h terms same;
 }

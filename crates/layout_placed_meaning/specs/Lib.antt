@@ -1,3 +1,4 @@
 pub mod Placed
 pub mod StatsText
 pub mod Chosen
+pub mod RunStores

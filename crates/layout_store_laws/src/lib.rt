@@ -7,6 +7,7 @@ ghost use Rattle.rdf_meaning.specs.Terms.{RdfTriple};
 ghost use Rattle.layout_standing_meaning.specs.Dictionary.{IsTriple};
 ghost use Rattle.layout_standing_meaning.specs.Stored.{StoreOf, IsStore, stored_triples};
 ghost use Rattle.layout_standing_meaning.specs.Changes.{is_stored, stored_in, taken_out, IsRefused};
+ghost use Rattle.layout_store_laws.specs.ListIds.{UseOneAtMost};
 
 /// Putting a triple into a store gives a store, which holds the triple once and what was held before.
 pub fn stored()
@@ -30,4 +31,12 @@ pub fn refused()
 pub fn unchanged()
     ensures there { (s : StoreOf) (t : RdfTriple) → IsStore s → IsTriple t → is_stored s t ≡ true → stored_in s t ≡ s }
     ensures absent { (s : StoreOf) (t : RdfTriple) → IsStore s → is_stored s t ≡ false → taken_out s t ≡ s }
+{}
+
+/// Putting in a triple uses at most one list id of each side, taking one out uses none, and so does a refusal but that
+/// it may use one of the direct side: of any store.
+pub fn list_ids()
+    ensures stored { (s : StoreOf) (t : RdfTriple) → UseOneAtMost s (stored_in s t) }
+    ensures taken { (s : StoreOf) (t : RdfTriple) → ((taken_out s t).direct.state.next ≡ s.direct.state.next) × ((taken_out s t).reverse.state.next ≡ s.reverse.state.next) }
+    ensures refused { (s : StoreOf) (t : RdfTriple) (new : StoreOf) → IsRefused s t new → UseOneAtMost s new × (new.reverse.state.next ≡ s.reverse.state.next) }
 {}

@@ -1,3 +1,4 @@
 pub mod RowForms
 pub mod Places
+pub mod TermLists
 mod Ordered

@@ -2,7 +2,6 @@
 use Rattle.std.proofs.Common.{◌≡◌, ℕ, zero, suc, ◌+◌, ◌-◌, ◌/◌, ◌%◌, ◌==◌, ◌≤◌, ◌<◌, Bool, if◌then◌else◌, List, [], ◌∷◌, ◌++◌, map, Option, Some, None, slice_get, get_or, length, refl, sym, ap, ap₂, ◌∙◌, arith}
 use Rattle.std.specs.Prelude.{unwrap_or}
 use Rattle.std.specs.List.{flat_map}
-use Rattle.rdf_meaning.specs.Terms.{RdfTerm}
 use Rattle.table_meaning.specs.declared.cell.Cell.{Cell}
 use Rattle.table_meaning.specs.declared.cell.Cell.TheVariants.{Null}
 use Rattle.layout_meaning.specs.Side.{Pair}
@@ -10,8 +9,7 @@ use Rattle.primary_rows.specs.Cells.{pair_of}
 use Rattle.primary_rows.specs.declared.cells.Pair as cells
 use Rattle.primary_rows.specs.declared.views.RowView.{RowView}
 use Rattle.primary_rows.specs.Views.{seen_row}
-use Rattle.layout_standing_meaning.specs.Dictionary.{numbered_from, entries_of}
-use Rattle.layout_standing_meaning.specs.Contents.{pair_cells, row_cells, term_cells}
+use Rattle.layout_standing_meaning.specs.Contents.{pair_cells, row_cells}
 
 abbrev cell_in : List Cell → ℕ → Cell
 cell_in row col = unwrap_or (slice_get row col) Null
@@ -65,26 +63,3 @@ mapped-at f (y ∷ ys) (suc i) x l e = mapped-at f ys i x (omega arith) e
 pub shown-primary : (rows : List RowView) → map (λ (r : RowView). row_cells (seen_row r)) rows ≡ map row_cells (map seen_row rows)
 shown-primary [] = refl
 shown-primary (r ∷ rows) = ap (λ (l : List (List Cell)). row_cells (seen_row r) ∷ l) (shown-primary rows)
-
-pub terms-long : (n : ℕ) (terms : List RdfTerm) → length (map term_cells (numbered_from n terms)) ≡ length terms
-terms-long n [] = refl
-terms-long n (t ∷ terms) = ap suc (terms-long (n + 1) terms)
-
--- the row of a term
-pub term-at : (n i : ℕ) (terms : List RdfTerm) (t : RdfTerm) → slice_get terms i ≡ Some t → slice_get (map term_cells (numbered_from n terms)) i ≡ Some (term_cells (record { id = n + i; term = t }))
-term-at n i [] t h = cc
-term-at n zero (x ∷ xs) t h =
-    let e : x ≡ t = cc in
-    let z : n ≡ n + 0 = omega arith in
-    ap (λ (u : RdfTerm). Some (term_cells (record { id = n; term = u }))) e ∙ ap (λ (m : ℕ). Some (term_cells (record { id = m; term = t }))) z
-term-at n (suc i) (x ∷ xs) t h =
-    let z : n + 1 + i ≡ n + suc i = omega arith in
-    term-at (n + 1) i xs t h ∙ ap (λ (m : ℕ). Some (term_cells (record { id = m; term = t }))) z
-
-pub term-cell_at : (terms : List RdfTerm) (row id : ℕ) (t : RdfTerm) (col : ℕ) → id ≡ row + 1 → slice_get terms (id - 1) ≡ Some t
-    → cell_in (term_cells (record { id = id; term = t })) col ≡ cell_in (unwrap_or (slice_get (map term_cells (entries_of terms)) row) []) col
-term-cell_at terms row id t col e h =
-    let r : id - 1 ≡ row = omega arith in
-    let i : id ≡ 1 + row = omega arith in
-    let k : slice_get (map term_cells (entries_of terms)) row ≡ Some (term_cells (record { id = 1 + row; term = t })) = term-at 1 row terms t (sym (ap (λ (m : ℕ). slice_get terms m) r) ∙ h) in
-    ap (λ (m : ℕ). cell_in (term_cells (record { id = m; term = t })) col) i ∙ sym (ap (λ (o : Option (List Cell)). cell_in (unwrap_or o []) col) k)

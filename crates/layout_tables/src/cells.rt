@@ -1,21 +1,17 @@
 //! Cells by their places in a row.
 
-ghost use Rattle.std.specs.Prelude.{◌≡◌, ◌<◌, [], map, length, unwrap_or, slice_get, if◌then◌else◌};
+ghost use Rattle.std.specs.Prelude.{◌≡◌, map, unwrap_or, slice_get, if◌then◌else◌};
 ghost use Rattle.std.specs.List.{flat_map};
 ghost use Rattle.table_meaning.specs.declared.cell.Cell.TheVariants.{Null};
 ghost use Rattle.rel_cells.specs.Seen.{seen_cell};
 ghost use Rattle.primary_rows.specs.Cells.{pair_of};
 ghost use Rattle.primary_rows.specs.Views.{seen_row};
-ghost use Rattle.layout_standing_meaning.specs.Dictionary.{entries_of};
-ghost use Rattle.layout_standing_meaning.specs.Contents.{pair_cells, row_cells, number_cell, term_cells};
+ghost use Rattle.layout_standing_meaning.specs.Contents.{pair_cells, row_cells};
 ghost use Rattle.layout_elements.specs.ElementRows.{element_row};
 
 use layout_elements::Element;
 use primary_rows::{Pair, RowView};
-use rdf_meaning::{Term, TermId};
-use rdf_terms::{class_of, number_of};
 use rel_cells::CellView;
-use term_book::TermBook;
 
 /// One of the two cells of a pair.
 fn half_cell<'a>(pair: Pair, second: bool) -> CellView<'a>
@@ -62,39 +58,4 @@ pub(crate) fn element_cell<'a>(element: Element, col: usize) -> CellView<'a>
         1 => CellView::Int(i128::from(element.value)),
         _ => CellView::Null,
     }
-}
-
-/// A number, if there is one.
-fn number_cell<'a>(number: Option<i128>) -> CellView<'a>
-    ensures { seen_cell result ≡ number_cell number }
-{
-    match number {
-        Some(number) => CellView::Int(number),
-        None => CellView::Null,
-    }
-}
-
-/// The cell at a place of the row of a term.
-fn cell_of_term(id: u32, term: &Term, col: usize) -> CellView<'_>
-    ensures { seen_cell result ≡ unwrap_or (slice_get (term_cells (record { id = id; term = term.now })) col) Null }
-{
-    match col {
-        0 => CellView::Int(i128::from(id)),
-        1 => CellView::Int(i128::from(class_of(term))),
-        2 => number_cell(number_of(term)),
-        3 => CellView::Text(&term.text),
-        4 => CellView::Text(&term.aux),
-        _ => CellView::Null,
-    }
-}
-
-/// The cell at a place of a row of the table of terms.
-pub(crate) fn term_cell(book: &TermBook, row: usize, col: usize) -> CellView<'_>
-    requires { row < length book.now }
-    ensures { seen_cell result ≡ unwrap_or (slice_get (unwrap_or (slice_get (map term_cells (entries_of book.now)) row) []) col) Null }
-{
-    // How many terms there are at most is told by a call.
-    let _count = book.count();
-    let id = row as u32 + 1;
-    cell_of_term(id, book.term(TermId::new(id)), col)
 }

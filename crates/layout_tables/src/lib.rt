@@ -4,5 +4,6 @@
 mod cells;
 mod table;
 mod tables;
+mod term_row;
 
-pub use tables::{Tables, tables_of};
+pub use tables::{Tables, share_tables, tables_of};

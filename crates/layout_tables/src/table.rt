@@ -5,20 +5,20 @@ ghost use Rattle.table_meaning.specs.declared.cell.Cell.TheVariants.{Null};
 ghost use Rattle.rel_cells.specs.Seen.{seen_cell};
 ghost use Rattle.layout_tables.specs.Shown.{shown_rows};
 
-use crate::cells::{element_cell, primary_cell, term_cell};
+use crate::cells::{element_cell, primary_cell};
+use crate::term_row::TermRow;
 use layout_elements::Element;
 use primary_rows::RowView;
 use rdf_meaning::Text;
 use rel_cells::{CellView, Schema};
 use std::marker::Model;
-use term_book::TermBook;
 
 /// The rows of a table.
 #[derive(Drop)]
 pub(crate) enum TableRows<'a> {
     Primary(Vec<RowView<'a>>),
     Lists(Vec<Element>),
-    Terms(&'a TermBook),
+    Terms(Vec<TermRow<'a>>),
 }
 
 impl<'a> TableRows<'a> {
@@ -29,7 +29,7 @@ impl<'a> TableRows<'a> {
         match self {
             TableRows::Primary(rows) => rows.len(),
             TableRows::Lists(elements) => elements.len(),
-            TableRows::Terms(book) => book.count() as usize,
+            TableRows::Terms(rows) => rows.len(),
         }
     }
 
@@ -41,7 +41,7 @@ impl<'a> TableRows<'a> {
         match self {
             TableRows::Primary(rows) => primary_cell(&rows[row], col),
             TableRows::Lists(elements) => element_cell(elements[row], col),
-            TableRows::Terms(book) => term_cell(book, row, col),
+            TableRows::Terms(rows) => rows[row].cell(col),
         }
     }
 }

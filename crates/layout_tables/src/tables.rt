@@ -17,6 +17,7 @@ ghost use Rattle.layout_elements.specs.ElementRows.{element_row};
 ghost use Rattle.layout_tables.specs.RowOrder.{StandInOrder};
 
 use crate::table::{Table, TableRows};
+use crate::term_row::term_rows;
 use layout_elements::{Element, elements};
 use layout_schemas::{list_schema, primary_schema, term_schema};
 use layout_sides::TripleSides;
@@ -114,6 +115,7 @@ fn push_side<'a>(
     requires { AreRising side.now.state.lists }
     ensures tables { OnOk result (tables.new.items ≡ tables.old.items ++ table_of primary.now (primary_schema side.now.columns.count) (map row_cells (numbered_rows side.now.state.entities)) ∷ table_of lists.now list_schema (flat_map element_cells side.now.state.lists) ∷ []) }
     ensures rising { IsStrictlySortedBy nat_cmp (keys_of side.now.state.entities) }
+    ensures few { OnOk result (side.now.columns.count ≤ 32) }
 {
     let rows = side.rows(alloc)?;
     let elements = elements(alloc, side, rows.as_slice())?;
@@ -130,12 +132,12 @@ fn term_table(alloc: Global, book: &TermBook) -> Result<Table<'_>, AllocError>
     Ok(Table {
         name: text_of(alloc, "TERM")?,
         schema: term_schema(alloc)?,
-        rows: TableRows::Terms(book),
+        rows: TableRows::Terms(term_rows(alloc, book)?),
     })
 }
 
-/// The tables of a dictionary and two sides, whose lists are in order. Memory goes with the rows and the
-/// elements of lists; the terms are lent.
+/// The tables of a dictionary and two sides, whose lists are in order. Memory goes with the rows, the elements
+/// of lists and the terms, whose texts are lent.
 pub fn tables_of<'a>(
     alloc: Global,
     book: &'a TermBook,
@@ -146,12 +148,17 @@ pub fn tables_of<'a>(
     ensures tables { IfOk result (λ tables. tables ≡ tables_of (store_of book.now sides.now)) }
     ensures order { IfOk result (λ tables. StandInOrder (layout_of (store_of book.now sides.now)) (contents_of sides.now.direct.state sides.now.reverse.state book.now) tables) }
 {
-    // How many columns there are at most is told by a call.
-    let _direct = sides.direct().columns().count();
-    let _reverse = sides.reverse().columns().count();
     let mut tables = Vec::new(alloc);
     push_side(&mut tables, alloc, sides.direct(), "DPH", "DS")?;
     push_side(&mut tables, alloc, sides.reverse(), "RPH", "RS")?;
     tables.push(term_table(alloc, book)?)?;
     Ok(Tables { tables })
+}
+
+// Takes what pieces may read at the same time.
+fn share<T: Sync>(_value: &T) {}
+
+/// The tables may be read by several threads at the same time.
+pub fn share_tables(tables: &Tables<'_>) {
+    share(tables)
 }

@@ -1,6 +1,7 @@
 -- Triples that are put in one after another.
 use Rattle.std.proofs.Common.{◌≡◌, ◌≢◌, ◌⊎◌, inl, inr, ℕ, ◌+◌, ◌≤◌, ◌<◌, ◌^◌, nat_le, nat_lt, Bool, true, false, if◌then◌else◌, List, [], ◌∷◌, ◌++◌, Option, Some, None, length, take, drop, get_or, refl, sym, ap, ◌∙◌, arith, subst}
 use Rattle.std.specs.List.{list_any, IsDistinct}
+use Rattle.std.specs.Option.{option_or}
 use Rattle.std.proofs.lemmas.List.Sums.{fold-append}
 use Rattle.std.proofs.lemmas.List.{take_more, drop_more}
 use Rattle.bags.specs.Bag.{SameBag}
@@ -24,7 +25,7 @@ use Rattle.rdf_layout.specs.declared.refusal.StoreRefusal.{StoreRefusal}
 use Rattle.rdf_layout.specs.declared.refusal.StoreRefusal.TheVariants.{Triples, Terms, Lists, NoMemory}
 use Rattle.rdf_layout.specs.Refused.{Refuses, HasRoom}
 use Rattle.layout_bulk_laws.specs.BulkStore.{each_once, terms_of}
-use Rattle.rdf_layout.specs.Bulk.{empty_sides, empty_store, put_in_turn, refusal_behind, or_later, refusal_from, ArePutInTurn}
+use Rattle.rdf_layout.specs.Bulk.{empty_sides, empty_store, put_in_turn, refusal_behind, refusal_from, ArePutInTurn}
 
 -- no triples
 pub put-none : (layout : LayoutOf) → AreSides (empty_sides layout) → ArePutInTurn (empty_store layout) [] (empty_store layout)
@@ -156,7 +157,7 @@ refuses_none start s seen t p h answer room = by (is_stored s t) refl answer
 
 refusal-step : (start s : StoreOf) (seen later : List RdfTriple) (t : RdfTriple) (p : Put) → ArePutInTurn start seen s → p ≡ put_of (is_stored s t) → (p ≡ Added → HasRoom s t)
     → refusal_from seen (t ∷ later) ≡ refusal_from (seen ++ t ∷ []) later
-refusal-step start s seen later t p h answer room = ap (λ (o : Option StoreRefusal). or_later o (refusal_from (seen ++ t ∷ []) later)) (refuses_none start s seen t p h answer room)
+refusal-step start s seen later t p h answer room = ap (λ (o : Option StoreRefusal). option_or o (refusal_from (seen ++ t ∷ []) later)) (refuses_none start s seen t p h answer room)
 
 -- a triple that was refused
 refused-behind : (start s : StoreOf) (seen : List RdfTriple) (t : RdfTriple) (e : StoreRefusal) → ArePutInTurn start seen s → e ≢ NoMemory → Refuses e s t → refusal_behind seen t ≡ Some e
@@ -191,7 +192,7 @@ refused-behind start s seen t Lists h n r = absurd (by r.3)
 refused-behind start s seen t NoMemory h n r = absurd (n refl)
 
 refused-step : (start s : StoreOf) (seen later : List RdfTriple) (t : RdfTriple) (e : StoreRefusal) → ArePutInTurn start seen s → Refuses e s t → e ≢ NoMemory → refusal_from seen (t ∷ later) ≡ Some e
-refused-step start s seen later t e h r n = ap (λ (o : Option StoreRefusal). or_later o (refusal_from (seen ++ t ∷ []) later)) (refused-behind start s seen t e h n r)
+refused-step start s seen later t e h r n = ap (λ (o : Option StoreRefusal). option_or o (refusal_from (seen ++ t ∷ []) later)) (refused-behind start s seen t e h n r)
 
 -- a turn of the loop
 pub taken-on : (ts : List RdfTriple) (i : ℕ) (t : RdfTriple) → i < length ts → t ≡ get_or ts i t → take (i + 1) ts ≡ take i ts ++ t ∷ []

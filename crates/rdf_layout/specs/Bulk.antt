@@ -1,6 +1,7 @@
 -- Triples that are put in one after another: what a store of them holds, and the first one that is refused (this project's own).
 use Rattle.std.specs.Prelude.{◌≡◌, ◌≤◌, nat_le, nat_lt, if◌then◌else◌, List, [], ◌∷◌, ◌++◌, fold, length, Option, Some, None}
 use Rattle.std.specs.List.{list_any}
+use Rattle.std.specs.Option.{option_or}
 use Rattle.bags.specs.Bag.{SameBag}
 use Rattle.rdf_meaning.specs.Terms.{RdfTriple, same_triple}
 use Rattle.layout_standing_meaning.specs.Schemas.{LayoutOf}
@@ -33,14 +34,10 @@ refusal_behind seen t =
     else if nat_lt 4000000 (length (with_terms (terms_of seen) t)) then Some Terms
     else None
 
-abbrev pub or_later : Option StoreRefusal → Option StoreRefusal → Option StoreRefusal
-or_later (Some refusal) later = Some refusal
-or_later None later = later
-
 -- the first refusal of triples behind others
 abbrev pub refusal_from : List RdfTriple → List RdfTriple → Option StoreRefusal
 refusal_from seen [] = None
-refusal_from seen (t ∷ later) = or_later (refusal_behind seen t) (refusal_from (seen ++ t ∷ []) later)
+refusal_from seen (t ∷ later) = option_or (refusal_behind seen t) (refusal_from (seen ++ t ∷ []) later)
 
 -- a store into which these triples were put, none of them refused: a list id at most for each triple that is stored
 pub record ArePutInTurn (start : StoreOf) (seen : List RdfTriple) (s : StoreOf) : Type 0 where

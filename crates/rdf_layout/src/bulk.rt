@@ -24,6 +24,7 @@ use pred_columns::Columns;
 use primary_rows::Side;
 use shredder::{Placed, shred};
 use std::alloc::{AllocError, Global};
+use std::thread::Threads;
 use term_book::TermBook;
 
 fn turned(placed: Placed) -> Placed
@@ -43,8 +44,16 @@ fn all_turned(alloc: Global, placed: &[Placed]) -> Result<Vec<Placed>, AllocErro
     placed.iter().map(|item| turned(*item)).collect(alloc)
 }
 
+// Each predicate has a column to go to.
+fn have_candidates(columns: &Columns)
+    ensures { HaveCandidates columns.now }
+{
+    let _ = columns.count();
+}
+
 /// The side of a bulk, with the columns that were chosen for it.
-fn side_of(
+fn side_of<R: Threads + Sync>(
+    rt: &R,
     alloc: Global,
     placed: &[Placed],
     book: &TermBook,
@@ -60,13 +69,13 @@ fn side_of(
     ensures some { IfOk result (λ s. HaveCandidates s.columns) }
 {
     let columns = columns_for(alloc, placed, book, chosen, hashes, greedy)?;
-    // What is known of columns is told by a call.
-    let _count = columns.count();
-    shred(alloc, placed, book, columns, pieces)
+    have_candidates(&columns);
+    shred(rt, alloc, placed, book, columns, pieces)
 }
 
 /// Both sides of a bulk.
-pub(crate) fn sides_of(
+pub(crate) fn sides_of<R: Threads + Sync>(
+    rt: &R,
     alloc: Global,
     placed: &[Placed],
     book: &TermBook,
@@ -85,9 +94,19 @@ pub(crate) fn sides_of(
     coloured_entities_have_one_row();
     let hashes = choice.hashes();
     let greedy = choice.is_greedy();
-    let direct = side_of(alloc, placed, book, choice.direct(), hashes, greedy, pieces)?;
+    let direct = side_of(
+        rt,
+        alloc,
+        placed,
+        book,
+        choice.direct(),
+        hashes,
+        greedy,
+        pieces,
+    )?;
     let placed = all_turned(alloc, placed)?;
     let reverse = side_of(
+        rt,
         alloc,
         placed.as_slice(),
         book,

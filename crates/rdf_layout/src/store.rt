@@ -9,7 +9,7 @@ ghost use Rattle.layout_standing_meaning.specs.Standing.{StandsFor};
 ghost use Rattle.layout_standing_meaning.specs.Stored.{IsStore, layout_of, tables_of, stored_triples};
 ghost use Rattle.layout_standing_meaning.specs.Changes.{is_stored, stored_in, taken_out, IsRefused};
 ghost use Rattle.layout_stats_meaning.specs.Statistics.{AreStats, AreSideStats};
-ghost use Rattle.layout_facts_meaning.specs.Facts.{AreFacts, AreIds};
+ghost use Rattle.layout_facts_meaning.specs.Facts.{AreFacts, AreIds, store_facts, store_ids};
 ghost use Rattle.layout_counts_meaning.specs.Counts.{AreCounts};
 ghost use Rattle.layout_tables.specs.RowOrder.{StandInOrder};
 ghost use Rattle.rdf_layout.specs.Refused.{Refuses, HasRoom};
@@ -35,6 +35,7 @@ use primary_rows::{Side, Took};
 use rdf_meaning::{Term, Triple};
 use std::alloc::{AllocError, Global};
 use std::marker::Model;
+use std::thread::Threads;
 use term_book::TermBook;
 use value_lists::Put;
 
@@ -78,7 +79,8 @@ impl Store {
     /// colour has no row but its first. The load is refused exactly where, at the first triple that is
     /// refused, 1,000,000 triples are stored and this one is new, or else where its terms would pass
     /// 4,000,000. The number of pieces changes nothing.
-    pub fn load(
+    pub fn load<R: Threads + Sync>(
+        rt: &R,
         alloc: Global,
         triples: &[Triple],
         choice: &LayoutChoice,
@@ -96,7 +98,7 @@ impl Store {
         let mut book = TermBook::new(alloc);
         let mut found = ItemSet::new(alloc);
         gather_all(&mut book, &mut found, alloc, triples)?;
-        let sides = sides_of(alloc, found.as_slice(), &book, choice, pieces)?;
+        let sides = sides_of(rt, alloc, found.as_slice(), &book, choice, pieces)?;
         Ok(Store { book, sides })
     }
 
@@ -132,7 +134,7 @@ impl Store {
     /// The tables DPH, DS, RPH, RS and TERM, which stand for the triples that are stored, under the layout of
     /// the load. Their rows stand in one order: those of DPH and RPH by rising entity, then by rising number;
     /// those of DS and RS list by list, by falling id, each list's elements in its order; those of TERM by
-    /// rising id. The terms are lent; memory goes with the rows and with the elements of lists.
+    /// rising id. Memory goes with the rows, the elements of lists and the terms, whose texts are lent.
     pub fn tables(&self, alloc: Global) -> Result<Tables<'_>, AllocError>
         ensures tables { IfOk result (λ tables. tables ≡ tables_of self.now) }
         ensures stand { IfOk result (λ tables. StandsFor (layout_of self.now) tables (stored_triples self.now)) }
@@ -144,7 +146,8 @@ impl Store {
     /// The columns of both sides, and which of given predicates are spilled on each: those that some entity
     /// holds in a row numbered above 0, in the order given, each once.
     pub fn facts(&self, alloc: Global, preds: &[Term]) -> Result<LayoutFacts, AllocError>
-        ensures { IfOk result (λ facts. AreFacts (layout_of self.now) (tables_of self.now) (stored_triples self.now) preds.now facts) }
+        ensures exact { IfOk result (λ facts. facts ≡ store_facts self.now preds.now) }
+        ensures told { IfOk result (λ facts. AreFacts (layout_of self.now) (tables_of self.now) (stored_triples self.now) preds.now facts) }
     {
         stores_tell();
         facts_of(alloc, &self.book, &self.sides, preds)
@@ -152,7 +155,8 @@ impl Store {
 
     /// Given terms with the ids that they have in the table TERM, or 0, in the order given.
     pub fn ids(&self, alloc: Global, terms: &[Term]) -> Result<QueryIds, AllocError>
-        ensures { IfOk result (λ ids. AreIds (layout_of self.now) (tables_of self.now) (stored_triples self.now) terms.now ids) }
+        ensures exact { IfOk result (λ ids. ids ≡ store_ids self.now terms.now) }
+        ensures told { IfOk result (λ ids. AreIds (layout_of self.now) (tables_of self.now) (stored_triples self.now) terms.now ids) }
     {
         stores_tell();
         ids_of(alloc, &self.book, terms)

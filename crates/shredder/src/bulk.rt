@@ -13,6 +13,7 @@ use primary_rows::Side;
 use rdf_meaning::TermId;
 use std::alloc::{AllocError, Global};
 use std::cmp::Ordering;
+use std::thread::Threads;
 use term_book::TermBook;
 use value_lists::Lists;
 
@@ -71,7 +72,8 @@ fn place_all(
 /// The side of items: they are placed entity by entity, and its lists have the ids from -1 downwards by rising
 /// entity, row number and column. The predicates are ids of the book, whose texts are their IRIs. All is done
 /// in one piece, whatever the number of pieces.
-pub fn shred(
+pub fn shred<R: Threads + Sync>(
+    _rt: &R,
     alloc: Global,
     placed: &[Placed],
     iris: &TermBook,

@@ -1,9 +1,8 @@
-use Rattle.std.proofs.Common.{◌≡◌, ℕ, ◌≤◌, true, List, sym, ap, subst, ◌∙◌}
+use Rattle.std.proofs.Common.{◌≡◌, ◌≤◌, true, List, sym, subst}
 use Rattle.std.specs.List.Sorted.{IsStrictlySortedBy}
 use Rattle.std.specs.Map.{keys_of}
 use Rattle.std.specs.Ordering.{nat_cmp}
 use Rattle.table_meaning.specs.Tables.{NamedTable, is_table_set}
-use Rattle.layout_meaning.specs.Columns.{ColumnsOf}
 use Rattle.layout_meaning.specs.Rows.{SideOf}
 use Rattle.layout_standing_meaning.specs.Stored.{StoreOf, tables_of}
 use Rattle.layout_standing_meaning.specs.Changes.{store_of}
@@ -15,20 +14,18 @@ pub invariant_of-result : goal.invariant_of-result
 invariant_of-result c =
     let s : StoreOf = store_of c.args.book.now c.args.sides.now in
     let same : c.push.new.self.items ≡ tables_of s
-    = tables-are s c.direct-2.result.now c.reverse-2.result.now c.new-tables.result.items c.push_side.new.tables.items c.push_side-2.new.tables.items c.push.new.self.items c.in_ok-term_table.field-0
-    c.direct-2.ensures c.reverse-2.ensures c.new-tables.ensures.items c.in_ok-push_side.ensures.tables c.in_ok-push_side-2.ensures.tables c.in_ok-push.ensures.items c.in_ok-term_table.ensures in
-    let direct : s.direct.columns.count ≤ 32
-    = subst (λ (n : ℕ). n ≤ 32) (c.count-direct.ensures.value ∙ ap (λ (w : ColumnsOf). w.count) c.columns.ensures.value ∙ ap (λ (w : SideOf). w.columns.count) c.direct.ensures) c.count-direct.ensures.high in
-    let reverse : s.reverse.columns.count ≤ 32
-    = subst (λ (n : ℕ). n ≤ 32) (c.count-reverse.ensures.value ∙ ap (λ (w : ColumnsOf). w.count) c.columns-2.ensures.value ∙ ap (λ (w : SideOf). w.columns.count) c.reverse.ensures) c.count-reverse.ensures.high in
+    = tables-are s c.direct.result.now c.reverse.result.now c.new-tables.result.items c.push_side.new.tables.items c.push_side-2.new.tables.items c.push.new.self.items c.in_ok-term_table.field-0
+    c.direct.ensures c.reverse.ensures c.new-tables.ensures.items c.in_ok-push_side.ensures.tables c.in_ok-push_side-2.ensures.tables c.in_ok-push.ensures.items c.in_ok-term_table.ensures in
+    let direct : s.direct.columns.count ≤ 32 = subst (λ (w : SideOf). w.columns.count ≤ 32) c.direct.ensures c.in_ok-push_side.ensures.few in
+    let reverse : s.reverse.columns.count ≤ 32 = subst (λ (w : SideOf). w.columns.count ≤ 32) c.reverse.ensures c.in_ok-push_side-2.ensures.few in
     subst (λ (l : List NamedTable). is_table_set l ≡ true) (sym same) (five-are_set s c.requires.store direct reverse)
 
 pub returns-clause-order : goal.returns-clause-order
 returns-clause-order c =
     let s : StoreOf = store_of c.args.book.now c.args.sides.now in
     let same : c.push.new.self.items ≡ tables_of s
-    = tables-are s c.direct-2.result.now c.reverse-2.result.now c.new-tables.result.items c.push_side.new.tables.items c.push_side-2.new.tables.items c.push.new.self.items c.in_ok-term_table.field-0
-    c.direct-2.ensures c.reverse-2.ensures c.new-tables.ensures.items c.in_ok-push_side.ensures.tables c.in_ok-push_side-2.ensures.tables c.in_ok-push.ensures.items c.in_ok-term_table.ensures in
-    let direct : IsStrictlySortedBy nat_cmp (keys_of s.direct.state.entities) = subst (λ (w : SideOf). IsStrictlySortedBy nat_cmp (keys_of w.state.entities)) c.direct-2.ensures c.in_ok-push_side.ensures.rising in
-    let reverse : IsStrictlySortedBy nat_cmp (keys_of s.reverse.state.entities) = subst (λ (w : SideOf). IsStrictlySortedBy nat_cmp (keys_of w.state.entities)) c.reverse-2.ensures c.in_ok-push_side-2.ensures.rising in
+    = tables-are s c.direct.result.now c.reverse.result.now c.new-tables.result.items c.push_side.new.tables.items c.push_side-2.new.tables.items c.push.new.self.items c.in_ok-term_table.field-0
+    c.direct.ensures c.reverse.ensures c.new-tables.ensures.items c.in_ok-push_side.ensures.tables c.in_ok-push_side-2.ensures.tables c.in_ok-push.ensures.items c.in_ok-term_table.ensures in
+    let direct : IsStrictlySortedBy nat_cmp (keys_of s.direct.state.entities) = subst (λ (w : SideOf). IsStrictlySortedBy nat_cmp (keys_of w.state.entities)) c.direct.ensures c.in_ok-push_side.ensures.rising in
+    let reverse : IsStrictlySortedBy nat_cmp (keys_of s.reverse.state.entities) = subst (λ (w : SideOf). IsStrictlySortedBy nat_cmp (keys_of w.state.entities)) c.reverse.ensures c.in_ok-push_side-2.ensures.rising in
     ordered s c.push.new.self.items c.requires.store c.requires.order direct reverse same

@@ -1,5 +1,0 @@
-use Rattle.layout_first_rows_laws.proofs.First.{first}
-use Rattle.layout_first_rows_laws.proofs.plain_values_stand_first.Goals as goal
-
-pub returns : goal.returns
-returns c = first

@@ -1,5 +1,5 @@
 -- What an expression gives over a solution (SPARQL 1.1 Query, section 17; the truth tables of section 17.2).
--- This project's own: equality and order of values of other types than numbers, booleans and strings, as said below.
+-- This project's own: equality and order of values of other types than numbers, booleans, strings, and dates with a time, as said below.
 use Rattle.std.specs.Prelude.{ℕ, ℤ, pos, Bool, true, false, not, ◌&&◌, ◌||◌, ◌==◌, if◌then◌else◌, List, [], ◌∷◌, map, Option, Some, None, is_some, codes}
 use Rattle.std.specs.declared.cmp.Ordering.{Ordering}
 use Rattle.std.specs.Ordering.{is_lt, is_eq, nat_cmp, int_cmp, int_eq}
@@ -9,8 +9,8 @@ use Rattle.rdf_meaning.specs.declared.kind.TermKind.TheVariants.{Iri, Blank, Tag
 use Rattle.rdf_meaning.specs.declared.text.KnownDatatype.TheVariants.{String}
 use Rattle.rdf_meaning.specs.Known.{known_bytes}
 use Rattle.rdf_meaning.specs.Terms.{RdfTerm, iri, typed, same_term, is_empty}
-use Rattle.rdf_value_meaning.specs.Values.{class_of, value_of}
-use Rattle.rdf_value_meaning.specs.TermOrder.{option_cmp}
+use Rattle.rdf_value_meaning.specs.Values.{class_of, value_of, has_value}
+use Rattle.std.specs.Option.{option_cmp}
 use Rattle.query_meaning.specs.declared.expression.CompareOp.{CompareOp}
 use Rattle.query_meaning.specs.declared.expression.CompareOp.TheVariants as op
 use Rattle.query_meaning.specs.declared.expression.TermTest.{TermTest}
@@ -128,7 +128,7 @@ abbrev pub is_nonzero : Option ℤ → Bool
 is_nonzero None = false
 is_nonzero (Some n) = not (int_eq n (pos 0))
 
--- numbers and booleans: not zero; strings and tagged literals: not empty; out of its datatype's form: false; else an error
+-- numbers and booleans: not zero; strings and tagged literals: not empty; out of its datatype's form or range: false; else an error
 abbrev pub effective_by_class : ℕ → Option ℤ → List ℕ → Truth
 effective_by_class class number text =
     if class == 3 || class == 4 then Some (is_nonzero number)
@@ -138,15 +138,15 @@ effective_by_class class number text =
 abbrev pub effective : RdfTerm → Truth
 effective t = effective_by_class (class_of t) (value_of t) t.text
 
--- numbers, booleans and strings
+-- terms that have a value, and strings
 abbrev pub has_order : ℕ → Bool
-has_order class = class == 3 || class == 4 || class == 5
+has_order class = has_value class || class == 5
 
 -- both are of one class, whose terms are compared by value
 abbrev pub compared_by_value : RdfTerm → RdfTerm → Bool
 compared_by_value a b = class_of a == class_of b && has_order (class_of a)
 
--- strings by their bytes, numbers and booleans by their number
+-- strings by their bytes, other terms by their value
 abbrev pub value_cmp : RdfTerm → RdfTerm → Ordering
 value_cmp a b = if class_of a == 5 then slice_cmp nat_cmp a.text b.text else option_cmp int_cmp (value_of a) (value_of b)
 

@@ -5,7 +5,7 @@ ghost use Rattle.query_eval_meaning.specs.Expressions.{effective, equal_terms, l
 
 use query_meaning::TermTest;
 use rdf_meaning::{Term, TermKind};
-use rdf_terms::{class_of, number_of, order_of_values};
+use rdf_terms::{class_of, has_value, number_of, order_of_values};
 use std::cmp::Ordering;
 
 /// The effective boolean value.
@@ -29,15 +29,15 @@ fn is_literal(term: &Term) -> bool
     matches!(term.kind, TermKind::Tagged | TermKind::Typed)
 }
 
-// Both are numbers, booleans or strings.
+// Both are of one class, whose terms are compared by value.
 fn compared_by_value(a: &Term, b: &Term) -> bool
     ensures { result ≡ compared_by_value a.now b.now }
 {
     let class = class_of(a);
-    class == class_of(b) && (class == 3 || class == 4 || class == 5)
+    class == class_of(b) && (has_value(class) || class == 5)
 }
 
-// Strings by their bytes, numbers and booleans by their number.
+// Strings by their bytes, other terms by their value.
 fn order_values(a: &Term, b: &Term) -> Ordering
     ensures { result ≡ value_cmp a.now b.now }
 {

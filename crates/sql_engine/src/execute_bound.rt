@@ -11,11 +11,13 @@ use crate::row_lists::row_list;
 use rel_cells::{RowList, TableSet};
 use sql_bind_forms::Bound;
 use std::alloc::{AllocError, Global};
+use std::thread::Threads;
 
 /// The rows of a bound script over tables that have the schemas which were bound, in the same order. The rows stand in
 /// their order, under the schema of the script's columns; they are the same for each number of pieces, of which there are
 /// 1 to 64.
-pub fn execute<T: TableSet + Sync>(
+pub fn execute<T: TableSet + Sync, R: Threads + Sync>(
+    _rt: &R,
     alloc: Global,
     bound: &Bound,
     tables: &T,

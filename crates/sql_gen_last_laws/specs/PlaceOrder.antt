@@ -10,7 +10,8 @@ use Rattle.std.specs.Cmp.Lexicographic.{slice_cmp}
 use Rattle.bags.specs.Sort.{by_items, turned}
 use Rattle.rdf_meaning.specs.Terms.{RdfTerm}
 use Rattle.rdf_value_meaning.specs.Values.{class_of, value_of}
-use Rattle.rdf_value_meaning.specs.TermOrder.{option_cmp, term_order, place_order}
+use Rattle.std.specs.Option.{option_cmp}
+use Rattle.rdf_value_meaning.specs.TermOrder.{term_order, place_order}
 use Rattle.query_meaning.specs.declared.modifiers.Key.{Key}
 use Rattle.query_eval_meaning.specs.Answer.{Row}
 use Rattle.table_meaning.specs.declared.cell.Cell.{Cell}

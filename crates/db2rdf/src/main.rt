@@ -28,7 +28,7 @@ fn main(rt: HostRuntime) -> ExitCode {
     let mut out = RealSink::output(&rt);
     let mut err = RealSink::error(&rt);
     let status = match words(&rt) {
-        Ok(words) => run(alloc, &words, &mut shelf, &mut out, &mut err),
+        Ok(words) => run(&rt, alloc, &words, &mut shelf, &mut out, &mut err),
         Err(status) => tell(alloc, status, &mut err),
     };
     ExitCode::from(status.code())

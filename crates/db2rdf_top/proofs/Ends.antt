@@ -1,160 +1,158 @@
 -- How a run ends, from how its parts end.
-use Rattle.std.proofs.Common.{◌≡◌, ℕ, ◌<◌, List, [], ◌∷◌, ◌++◌, take, refl, sym, subst, inl, inr, ◌⊎◌, arith}
-use Rattle.std.specs.Prelude.{Option, Some, None, Result, Ok, Err, IfOk, IfErr, IfSome, IsOkAnd, MatchResult}
+use Rattle.std.proofs.Common.{◌≡◌, ℕ, ◌<◌, List, ◌++◌, take, refl, sym, subst, inl, inr, ◌⊎◌, arith}
+use Rattle.std.specs.Prelude.{Option, Some, None, Result, Ok, Err, IfOk, IfErr, IfSome, MatchResult}
 use Rattle.store_io.specs.Causes.{Rose}
 use Rattle.run_meaning.specs.declared.status.Status.{Status}
 use Rattle.run_meaning.specs.declared.status.Status.TheVariants.{Done, Usage, BadData, BadQuery, Limit, ReadFault, WriteFault, BadTables, BadSql, BadColouring, NotYet, NoMemory}
 use Rattle.run_meaning.specs.declared.command.Command.{Command}
-use Rattle.run_outcome_meaning.specs.Outcome.{Contents, Texts, NamedFile, Work, files_of, Asks}
-use Rattle.run_outcome_meaning.specs.FittingText.{FitsText, Fits, FitsFront}
-use Rattle.run_outcome_meaning.specs.Causes.{Faults, Tells, WhereTold, AsksFor, IsReached, NoReadFailed, Says, Completes}
-use Rattle.run_outcome_laws.specs.OneOutcome.{AskOnce}
-use Rattle.db2rdf_top.specs.Stops.{FitsAsked, Refuses, Puts, NamesSomething}
+use Rattle.run_files_meaning.specs.Intake.{Contents}
+use Rattle.run_files_meaning.specs.Refusal.{Ending, whole, broken, unread, no_memory, refused, ending_of}
+use Rattle.run_files_meaning.specs.Job.{Job, AsksFor}
+use Rattle.run_outcome_meaning.specs.Causes.{Faults, Appends, AppendsFront, SaysBy, Says, NoReadFailed, Owed, Completes}
+use Rattle.run_outcome_laws.specs.OneOutcome.{AsksOnce}
+use Rattle.db2rdf_top.specs.Endings.{LacksBy, Lacks, FitsJob, Makes, PutsBy, Puts, NamesSomething}
 
--- ---- what a text, or a refusal, says once it is put
+-- ---- what a text, or the lack of one, says once it is put
 
-ok_map : (P Q : Work → Type 0) → ((work : Work) → P work → Q work) → (o : Result Work Status) → IsOkAnd o P → IsOkAnd o Q
-ok_map P Q f (Err status) h = h
-ok_map P Q f (Ok work) h = f work h
+appends : (text : List ℕ) (old new : Option (List ℕ)) (Fits : List ℕ → Type 0) → Fits text → IfSome old (λ bytes. new ≡ Some (bytes ++ text)) → Appends Fits old new
+appends text None new Fits is h = tt
+appends text (Some bytes) new Fits is h = (text, is, h)
 
-asks_map : (P Q : Work → Type 0) → ((work : Work) → P work → Q work) → (asked : Result Command Status) (contents : Contents) → AsksFor asked contents P → AsksFor asked contents Q
-asks_map P Q f (Err status) contents h = h
-asks_map P Q f (Ok command) contents h = λ texts t. let x = h texts t in (x.0, x.1, ok_map P Q f x.0 x.2)
-
-fits : (text : List ℕ) (old new : Option (List ℕ)) → IfSome old (λ bytes. new ≡ Some (bytes ++ text)) → (work : Work) → FitsText work text → Fits work old new
-fits text None new h work is = tt
-fits text (Some bytes) new h work is = (text, is, h)
-
-fits_front : (text : List ℕ) (old new : Option (List ℕ)) → IfSome old (λ bytes. (count : ℕ) × (new ≡ Some (bytes ++ take count text))) → (work : Work) → FitsText work text → FitsFront work old new
-fits_front text None new h work is = tt
-fits_front text (Some bytes) new h work is = (text, is, h)
+appends_front : (text : List ℕ) (old new : Option (List ℕ)) (Fits : List ℕ → Type 0) → Fits text → IfSome old (λ bytes. (count : ℕ) × (new ≡ Some (bytes ++ take count text))) → AppendsFront Fits old new
+appends_front text None new Fits is h = tt
+appends_front text (Some bytes) new Fits is h = (text, is, h)
 
 -- the text was put, or a front of it
-pub text_says : (status : Status) (text : List ℕ) (asked : Result Command Status) (contents : Contents) (faults : Faults) (old new : Option (List ℕ))
-    → FitsAsked text asked contents → Puts status text old new faults.out_before faults.out_after → Says status asked contents faults old new
-text_says Done text asked contents faults old new f p =
-    asks_map (λ work. FitsText work text) (λ work. Fits work old new) (fits text old new p) asked contents f.told
-text_says WriteFault text asked contents faults old new f p =
-    (asks_map (λ work. FitsText work text) (λ work. FitsFront work old new) (fits_front text old new p.0) asked contents f.told, p.1)
-text_says Usage text asked contents faults old new f p = absurd p
-text_says (BadData line) text asked contents faults old new f p = absurd p
-text_says (BadQuery why) text asked contents faults old new f p = absurd p
-text_says (Limit which) text asked contents faults old new f p = absurd p
-text_says (BadTables line) text asked contents faults old new f p = absurd p
-text_says (BadSql why) text asked contents faults old new f p = absurd p
-text_says (BadColouring line) text asked contents faults old new f p = absurd p
-text_says (ReadFault name) text asked contents faults old new f p = absurd p
-text_says NotYet text asked contents faults old new f p = absurd p
-text_says NoMemory text asked contents faults old new f p = absurd p
+text_says : (status : Status) (text : List ℕ) (job : Job) (contents : Contents) (faults : Faults) (old new : Option (List ℕ))
+    → FitsJob text job contents → Puts status text old new faults.out_before faults.out_after → Says status job contents faults old new
+text_says status text job contents faults old new f p = by (ending_of status) p
+  where
+    by : (end : Ending) → PutsBy end text old new faults.out_before faults.out_after → SaysBy end status job contents faults old new
+    by whole p = (f.work, f.asked, appends text old new (job.Fits f.work) f.fits p)
+    by broken p = ((f.work, f.asked, appends_front text old new (job.Fits f.work) f.fits p.0), p.1)
+    by (unread name) p = absurd p
+    by no_memory p = absurd p
+    by refused p = absurd p
 
 -- there was no text
-pub refusal_says : (status : Status) (asked : Result Command Status) (contents : Contents) (faults : Faults) (old new : Option (List ℕ))
-    → Refuses status asked contents faults.before faults.after → new ≡ old → Says status asked contents faults old new
-refusal_says NoMemory asked contents faults old new r e = e
-refusal_says Usage asked contents faults old new r e = (r, e)
-refusal_says (BadData line) asked contents faults old new r e = (r, e)
-refusal_says (BadQuery why) asked contents faults old new r e = (r, e)
-refusal_says (Limit which) asked contents faults old new r e = (r, e)
-refusal_says (BadTables line) asked contents faults old new r e = (r, e)
-refusal_says (BadSql why) asked contents faults old new r e = (r, e)
-refusal_says (BadColouring line) asked contents faults old new r e = (r, e)
-refusal_says (ReadFault name) asked contents faults old new r e = (r, e)
-refusal_says NotYet asked contents faults old new r e = (r, e)
-refusal_says Done asked contents faults old new r e = absurd r
-refusal_says WriteFault asked contents faults old new r e = absurd r
+lack_says : (status : Status) (job : Job) (contents : Contents) (faults : Faults) (old new : Option (List ℕ))
+    → Lacks status job contents faults.before faults.after → new ≡ old → Says status job contents faults old new
+lack_says status job contents faults old new l e = by (ending_of status) l
+  where
+    by : (end : Ending) → LacksBy end status job contents faults.before faults.after → SaysBy end status job contents faults old new
+    by whole l = absurd l
+    by broken l = absurd l
+    by (unread name) l = (record { rose = l.0; reached = l.1 }, e)
+    by no_memory l = e
+    by refused l = (l, e)
+
+-- nothing was put under a status whose line names something
+abbrev Unput : Ending → Type 0
+Unput whole = ⊥
+Unput broken = ⊥
+Unput (unread name) = Unit {0}
+Unput no_memory = Unit {0}
+Unput refused = Unit {0}
+
+unput : (status : Status) → NamesSomething status → Unput (ending_of status)
+unput Done n = n
+unput Usage n = tt
+unput (BadData file line) n = tt
+unput (BadQuery why) n = tt
+unput (Limit which) n = tt
+unput (ReadFault name) n = tt
+unput WriteFault n = n
+unput (BadTables line) n = tt
+unput (BadSql why) n = tt
+unput (BadColouring line) n = tt
+unput NotYet n = tt
+unput NoMemory n = tt
+
+same_output : (end : Ending) (status : Status) (job : Job) (contents : Contents) (faults : Faults) (old new : Option (List ℕ)) → Unput end → SaysBy end status job contents faults old new → new ≡ old
+same_output whole status job contents faults old new n s = absurd n
+same_output broken status job contents faults old new n s = absurd n
+same_output (unread name) status job contents faults old new n s = s.1
+same_output no_memory status job contents faults old new n s = s
+same_output refused status job contents faults old new n s = s.1
 
 -- a line that is made may want memory
-pub ends : (status result : Status) (asked : Result Command Status) (contents : Contents) (faults : Faults) (old new : Option (List ℕ))
-    → Says status asked contents faults old new → (result ≡ status) ⊎ (NamesSomething status × (result ≡ NoMemory)) → Says result asked contents faults old new
-ends status result asked contents faults old new s (inl e) = rw e s
-ends (ReadFault name) result asked contents faults old new s (inr e) = rw e.1 s.1
-ends (BadData line) result asked contents faults old new s (inr e) = rw e.1 s.1
-ends (BadQuery why) result asked contents faults old new s (inr e) = rw e.1 s.1
-ends (Limit which) result asked contents faults old new s (inr e) = rw e.1 s.1
-ends (BadTables line) result asked contents faults old new s (inr e) = rw e.1 s.1
-ends (BadSql why) result asked contents faults old new s (inr e) = rw e.1 s.1
-ends (BadColouring line) result asked contents faults old new s (inr e) = rw e.1 s.1
-ends Done result asked contents faults old new s (inr e) = absurd e.0
-ends Usage result asked contents faults old new s (inr e) = absurd e.0
-ends WriteFault result asked contents faults old new s (inr e) = absurd e.0
-ends NotYet result asked contents faults old new s (inr e) = absurd e.0
-ends NoMemory result asked contents faults old new s (inr e) = absurd e.0
+ends : (status result : Status) (job : Job) (contents : Contents) (faults : Faults) (old new : Option (List ℕ))
+    → Says status job contents faults old new → (result ≡ status) ⊎ (NamesSomething status × (result ≡ NoMemory)) → Says result job contents faults old new
+ends status result job contents faults old new s (inl e) = subst (λ (t : Status). Says t job contents faults old new) (sym e) s
+ends status result job contents faults old new s (inr e) =
+    let same : new ≡ old = same_output (ending_of status) status job contents faults old new (unput status e.0) s in
+    subst (λ (t : Status). Says t job contents faults old new) (sym e.1) same
 
 -- what a run says, by the text that was made or why there is none, and by what was put
-pub run_says : {X : Type 0} (items : X → List ℕ) (made : Result X Status) (status result : Status) (asked : Result Command Status) (contents : Contents) (faults : Faults) (old new : Option (List ℕ))
-    → IfOk made (λ x. FitsAsked (items x) asked contents) → IfErr made (λ s. Refuses s asked contents faults.before faults.after)
+pub run_says : {X : Type 0} (items : X → List ℕ) (made : Result X Status) (status result : Status) (job : Job) (contents : Contents) (faults : Faults) (old new : Option (List ℕ))
+    → Makes items made job contents faults.before faults.after
     → IfOk made (λ x. Puts status (items x) old new faults.out_before faults.out_after) → IfErr made (λ s. (status ≡ s) × (new ≡ old))
-    → (result ≡ status) ⊎ (NamesSomething status × (result ≡ NoMemory)) → Says result asked contents faults old new
-run_says items (Ok x) status result asked contents faults old new f r p n e =
-    ends status result asked contents faults old new (text_says status (items x) asked contents faults old new f p) e
-run_says items (Err s) status result asked contents faults old new f r p n e =
-    let says : Says s asked contents faults old new = refusal_says s asked contents faults old new r n.1 in
-    ends status result asked contents faults old new (subst (λ (t : Status). Says t asked contents faults old new) (sym n.0) says) e
+    → (result ≡ status) ⊎ (NamesSomething status × (result ≡ NoMemory)) → Says result job contents faults old new
+run_says items (Ok x) status result job contents faults old new m p n e =
+    ends status result job contents faults old new (text_says status (items x) job contents faults old new m p) e
+run_says items (Err s) status result job contents faults old new m p n e =
+    let says : Says s job contents faults old new = lack_says s job contents faults old new m n.1 in
+    ends status result job contents faults old new (subst (λ (t : Status). Says t job contents faults old new) (sym n.0) says) e
 
--- what is owed by a status, for one outcome
-abbrev Owed : Status → Faults → Result Work Status → Type 0
-Owed status faults o = MatchResult o
-    (λ work. (Rose faults.out_before faults.out_after → ⊥) → (status ≡ Done) ⊎ (status ≡ NoMemory))
-    (λ owed. (status ≡ owed) ⊎ (status ≡ NoMemory))
+-- ---- each status that is not owed has its cause
 
-done_owed : (o : Result Work Status) (P : Work → Type 0) (faults : Faults) → IsOkAnd o P → Owed Done faults o
-done_owed (Err status) P faults h = absurd h
-done_owed (Ok work) P faults h = λ _. inl refl
+abbrev kept : {W : Type 0} → W → Result W Status
+kept work = Ok work
 
-memory_owed : (o : Result Work Status) (faults : Faults) → Owed NoMemory faults o
-memory_owed (Err status) faults = inr refl
-memory_owed (Ok work) faults = λ _. inr refl
+abbrev lost : {W : Type 0} → Status → Result W Status
+lost status = Err status
 
-write_owed : (o : Result Work Status) (P : Work → Type 0) (faults : Faults) → IsOkAnd o P → Rose faults.out_before faults.out_after → Owed WriteFault faults o
-write_owed (Err status) P faults h r = absurd h
-write_owed (Ok work) P faults h r = λ never. absurd (never r)
+apart : {W : Type 0} (work : W) (status : Status) → kept work ≡ lost status → ⊥
+apart work status e = cc
 
-refusal_owed : (o : Result Work Status) (status : Status) (faults : Faults) → o ≡ Err status → Owed status faults o
-refusal_owed o status faults e = rw e (inl refl)
+same_status : {W : Type 0} (s t : Status) → lost {W = W} s ≡ lost {W = W} t → s ≡ t
+same_status s t e = cc
 
-still : (faults : Faults) (name other : List ℕ) → faults.before name < faults.after name → name ≡ other → faults.after other ≡ faults.before other → ⊥
-still faults name other lt e s =
-    let P : List ℕ → Type 0 = λ m. faults.before m < faults.after m in
-    let l : faults.before other < faults.after other = subst P e lt in omega arith
+done_owed : {W : Type 0} (status : Status) (faults : Faults) (work : W) (o : Result W Status) → status ≡ Done → kept work ≡ o → Owed status faults o
+done_owed status faults work (Ok w) e s = λ _. inl e
+done_owed status faults work (Err t) e s = absurd (apart work t s)
 
--- a file that was reached could not be read, though no read failed
-none_failed : (faults : Faults) (name : List ℕ) (contents : Contents) (files : List NamedFile) → faults.before name < faults.after name
-    → IsReached name contents files → NoReadFailed files faults → ⊥
-none_failed faults name contents [] lt r none = absurd r
-none_failed faults name contents (file ∷ files) lt (inl e) none = still faults name file.name lt e none.0
-none_failed faults name contents (file ∷ files) lt (inr r) none = none_failed faults name contents files lt r.1 none.1
+broken_owed : {W : Type 0} (status : Status) (faults : Faults) (work : W) (o : Result W Status) → Rose faults.out_before faults.out_after → kept work ≡ o → Owed status faults o
+broken_owed status faults work (Ok w) r s = λ never. absurd (never r)
+broken_owed status faults work (Err t) r s = absurd (apart work t s)
 
--- what holds of one thing that a command asks for holds of all
-of_all : (command : Command) (contents : Contents) (P Q : Result Work Status → Type 0) → AskOnce → WhereTold contents command P → ((o : Result Work Status) → P o → Q o)
-    → (texts : Texts) → Tells contents texts (files_of command) → (o : Result Work Status) → Asks command texts o → Q o
-of_all command contents P Q once h f texts t o a = let x = h texts t in subst Q (once command texts x.0 o x.1 a) (f x.0 x.2)
+memory_owed : {W : Type 0} (status : Status) (faults : Faults) (o : Result W Status) → status ≡ NoMemory → Owed status faults o
+memory_owed status faults (Ok w) e = λ _. inr e
+memory_owed status faults (Err t) e = inr e
 
-refused : (status : Status) (command : Command) (contents : Contents) (faults : Faults) → AskOnce → WhereTold contents command (λ o. o ≡ Err status) → Completes status (Ok command) contents faults
-refused status command contents faults once s = λ _. of_all command contents (λ o. o ≡ Err status) (Owed status faults) once s (λ o. refusal_owed o status faults)
+refused_owed : {W : Type 0} (status : Status) (faults : Faults) (o : Result W Status) → lost status ≡ o → Owed status faults o
+refused_owed status faults (Ok w) s = absurd (apart w status (sym s))
+refused_owed {W = W} status faults (Err t) s = inl (same_status {W = W} status t s)
 
--- each status that is not owed has its cause
-pub completes : (status : Status) (asked : Result Command Status) (contents : Contents) (faults : Faults) (old new : Option (List ℕ))
-    → AskOnce → Says status asked contents faults old new → Completes status asked contents faults
-completes Usage asked contents faults old new once s = rw s.0 (inl refl)
-completes NoMemory (Err owed) contents faults old new once s = inr refl
-completes NoMemory (Ok command) contents faults old new once s = λ _ texts t o a. memory_owed o faults
-completes Done (Err owed) contents faults old new once s = absurd s
-completes Done (Ok command) contents faults old new once s = λ _. of_all command contents (λ o. IsOkAnd o (λ work. Fits work old new)) (Owed Done faults) once s (λ o h. done_owed o (λ work. Fits work old new) faults h)
-completes WriteFault (Err owed) contents faults old new once s = absurd s.0
-completes WriteFault (Ok command) contents faults old new once s = λ _. of_all command contents (λ o. IsOkAnd o (λ work. FitsFront work old new)) (Owed WriteFault faults) once s.0 (λ o h. write_owed o (λ work. FitsFront work old new) faults h s.1)
-completes (ReadFault name) (Err owed) contents faults old new once s = absurd s.0
-completes (ReadFault name) (Ok command) contents faults old new once s = λ none. absurd (none_failed faults name contents (files_of command) s.0.0 s.0.1 none)
-completes NotYet (Err owed) contents faults old new once s = inl (sym s.0)
-completes NotYet (Ok command) contents faults old new once s = refused NotYet command contents faults once s.0
-completes (BadData line) (Err owed) contents faults old new once s = inl (sym s.0)
-completes (BadQuery why) (Err owed) contents faults old new once s = inl (sym s.0)
-completes (BadData line) (Ok command) contents faults old new once s = refused (BadData line) command contents faults once s.0
-completes (BadQuery why) (Ok command) contents faults old new once s = refused (BadQuery why) command contents faults once s.0
-completes (Limit which) (Err owed) contents faults old new once s = inl (sym s.0)
-completes (Limit which) (Ok command) contents faults old new once s = refused (Limit which) command contents faults once s.0
-completes (BadTables line) (Err owed) contents faults old new once s = inl (sym s.0)
-completes (BadTables line) (Ok command) contents faults old new once s = refused (BadTables line) command contents faults once s.0
-completes (BadSql why) (Err owed) contents faults old new once s = inl (sym s.0)
-completes (BadColouring line) (Err owed) contents faults old new once s = inl (sym s.0)
-completes (BadSql why) (Ok command) contents faults old new once s = refused (BadSql why) command contents faults once s.0
-completes (BadColouring line) (Ok command) contents faults old new once s = refused (BadColouring line) command contents faults once s.0
+-- the status of an ending that is of one status
+abbrev Known : Ending → Status → Type 0
+Known whole status = status ≡ Done
+Known no_memory status = status ≡ NoMemory
+Known _ status = Unit {0}
+
+known : (status : Status) → Known (ending_of status) status
+known Done = refl
+known Usage = tt
+known (BadData file line) = tt
+known (BadQuery why) = tt
+known (Limit which) = tt
+known (ReadFault name) = tt
+known WriteFault = tt
+known (BadTables line) = tt
+known (BadSql why) = tt
+known (BadColouring line) = tt
+known NotYet = tt
+known NoMemory = refl
+
+unrisen : (before after : ℕ) → before < after → after ≡ before → ⊥
+unrisen before after lt e = omega arith
+
+pub completes : (status : Status) (job : Job) (contents : Contents) (faults : Faults) (old new : Option (List ℕ)) → AsksOnce job → Says status job contents faults old new → Completes status job contents faults
+completes status job contents faults old new once s told none o asked = by (ending_of status) (known status) s
+  where
+    by : (end : Ending) → Known end status → SaysBy end status job contents faults old new → Owed status faults o
+    by whole k s = done_owed status faults s.0 o k (once contents told (Ok s.0) o s.1 asked)
+    by broken k s = broken_owed status faults s.0.0 o s.1 (once contents told (Ok s.0.0) o s.0.1 asked)
+    by (unread name) k s = absurd (unrisen (faults.before name) (faults.after name) s.0.rose (none name s.0.reached))
+    by no_memory k s = memory_owed status faults o k
+    by refused k s = refused_owed status faults o (once contents told (Err status) o s.0 asked)

@@ -1,2 +1,2 @@
-pub mod Given
-pub mod Ends
+mod Jobs
+mod Ends

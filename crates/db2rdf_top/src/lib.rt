@@ -1,7 +1,6 @@
-//! The program: words, files, the answer to a query, and what goes wrong.
+//! The program: words, files, what they ask for, and what goes wrong.
 #![tactic(auto)]
 
-mod files;
 mod messages;
 mod program;
 

@@ -1,9 +1,9 @@
 //! The lines on the error output.
 
 ghost use Rattle.std.specs.Prelude.{◌≡◌, ◌++◌, ◌∷◌, [], IfOk, OnOk, ◌⊎◌, codes, decimal};
-ghost use Rattle.run_meaning.specs.Codes.{line_of, name_of, name_of_feature, text_of_query_fault, text_of_fault, in_select};
+ghost use Rattle.run_meaning.specs.Codes.{line_of, of_file, name_of, name_of_feature, text_of_query_fault, text_of_fault, in_select};
 ghost use Rattle.run_outcome_meaning.specs.Causes.{Told};
-ghost use Rattle.db2rdf_top.specs.Stops.{NamesSomething};
+ghost use Rattle.db2rdf_top.specs.Endings.{NamesSomething};
 
 use itoa::Buffer;
 use rdf_meaning::Text;
@@ -13,7 +13,7 @@ use std::alloc::{AllocError, Global};
 use store_io::Sink;
 
 const USAGE: &[u8] =
-    b"db2rdf: usage: db2rdf query|show|plan [options] DATA QUERY; stats [options] DATA; exec [--pieces N] FILE; drill [options] N SEED\n";
+    b"db2rdf: usage: db2rdf query|show|plan [options] DATA... QUERY; stats [options] DATA...; exec [--pieces N] FILE; drill [options] N SEED\n";
 
 const NO_MEMORY: &[u8] = b"db2rdf: no memory\n";
 
@@ -45,11 +45,26 @@ fn numbered_line(alloc: Global, front: &[u8], number: u64) -> Result<Vec<u8>, Al
     Ok(text)
 }
 
-// The line of a bad data line.
-fn bad_data_line(alloc: Global, line: u64) -> Result<Vec<u8>, AllocError>
-    ensures { IfOk result (λ text. text.items ≡ line_of (Status.BadData line)) }
+// Which data file a line stands in; the first one isn't named.
+fn write_file(file: u32, text: &mut Vec<u8>) -> Result<(), AllocError>
+    ensures { OnOk result (text.new.items ≡ text.old.items ++ of_file file) }
 {
-    numbered_line(alloc, b"db2rdf: bad data at line ", line)
+    if file == 0 {
+        return Ok(());
+    }
+    text.extend_from_slice(b" of file ")?;
+    write_number(u64::from(file), text)
+}
+
+// The line of a bad data line.
+fn bad_data_line(alloc: Global, file: u32, line: u64) -> Result<Vec<u8>, AllocError>
+    ensures { IfOk result (λ text. text.items ≡ line_of (Status.BadData file line)) }
+{
+    let mut text = Vec::from_slice(alloc, b"db2rdf: bad data at line ")?;
+    write_number(line, &mut text)?;
+    write_file(file, &mut text)?;
+    text.push(b'\n')?;
+    Ok(text)
 }
 
 // The line of a bad line of tables.
@@ -250,8 +265,12 @@ pub fn tell<E: Sink>(alloc: Global, status: Status, err: &mut E) -> Status
             let _ = err.put(USAGE);
             Status::Usage
         }
-        Status::BadData { line } => {
-            put_line(bad_data_line(alloc, line), Status::BadData { line }, err)
+        Status::BadData { file, line } => {
+            put_line(
+                bad_data_line(alloc, file, line),
+                Status::BadData { file, line },
+                err,
+            )
         }
         Status::BadQuery { why } => {
             put_line(bad_query_line(alloc, why), Status::BadQuery { why }, err)

@@ -1,1 +1,4 @@
+mod Numbers
+pub mod Choices
+pub mod Spelled
 pub mod InRange

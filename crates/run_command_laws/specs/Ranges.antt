@@ -1,24 +1,2 @@
--- The ranges of a command's options.
-use Rattle.std.specs.Prelude.{ℕ, ◌≤◌}
-use Rattle.run_meaning.specs.declared.command.Options.{Options}
-use Rattle.run_meaning.specs.declared.command.Command.{Command}
-use Rattle.run_meaning.specs.declared.command.Command.TheVariants.{Query, Show, Plan, Stats, Exec, Drill}
-
-abbrev pub IsWithin : ℕ → ℕ → ℕ → Type 0
-IsWithin low high n = (low ≤ n) × (n ≤ high)
-
--- 1 to 32 columns on each side, 1 to 4 hashes, 1 to 64 pieces
-pub record AreInRange (options : Options) : Type 0 where
-  pub columns : IsWithin 1 32 options.columns
-  pub reverse : IsWithin 1 32 options.reverse
-  pub hashes : IsWithin 1 4 options.hashes
-  pub pieces : IsWithin 1 64 options.pieces
-
--- the options of a command are in range; exec has pieces alone
-abbrev pub IsInRange : Command → Type 0
-IsInRange (Query options data_name query_name) = AreInRange options
-IsInRange (Show options data_name query_name) = AreInRange options
-IsInRange (Plan options data_name query_name) = AreInRange options
-IsInRange (Stats options data_name) = AreInRange options
-IsInRange (Exec pieces file_name) = IsWithin 1 64 pieces
-IsInRange (Drill options count seed) = AreInRange options
+-- The ranges of a command's options, where the crates above look for them.
+pub use Rattle.run_meaning.specs.Ranges.{IsWithin, AreInRange, IsInRange}

@@ -13,8 +13,9 @@ use Rattle.sql_text.specs.Refuses.{Refuses}
 use Rattle.run_meaning.specs.declared.fault.SqlFault.TheVariants as fault
 use Rattle.run_meaning.specs.declared.status.Status.{Status}
 use Rattle.run_meaning.specs.declared.status.Status.TheVariants.{BadSql}
-use Rattle.run_outcome_meaning.specs.Outcome.{SqlAsks, ScriptAsks, judged_script, reads, is_deep, breaks, has_tables}
-use Rattle.run_outcome_meaning.specs.Refusal.{RefusedAs, refused_map}
+use Rattle.run_exec_meaning.specs.Running.{SqlAsks, ScriptAsks, judged_script, reads_script, is_deep, breaks, has_tables}
+use Rattle.run_files_meaning.specs.Refusal.{RefusedAs}
+use Rattle.run_files_meaning.proofs.Takes.{refused_map}
 
 deep : (sql : List ℕ) → Refuses sql refusal.Deep → (tables : List NamedTable) → SqlAsks tables sql (Err (BadSql fault.Deep))
 deep sql (told.is_deep h) tables = is_deep h
@@ -37,7 +38,7 @@ pub broken_asks : (text : List ℕ) (at place : ℕ) (r : SqlRefusal) → Refuse
 broken_asks text at place r h e = broken (drop at text) place (same_end text at r (refusal.Syntax place) h e)
 
 pub parts_ask : (text : List ℕ) (tables : List NamedTable) (at : ℕ) (script : Script) → TablesRead text tables at → SpellsOnly (drop at text) script → ScriptAsks text (judged_script tables script)
-parts_ask text tables at script r s = has_tables tables at (judged_script tables script) r (reads script s)
+parts_ask text tables at script r s = has_tables tables at (judged_script tables script) r (reads_script script s)
 
 pub sql_refused : (text : List ℕ) (tables : List NamedTable) (at : ℕ) (status : Status) → TablesRead text tables at
     → RefusedAs status (λ s. (ts : List NamedTable) → SqlAsks ts (drop at text) (Err s)) → RefusedAs status (λ s. ScriptAsks text (Err s))

@@ -17,9 +17,9 @@ use Rattle.sql_bind.specs.Refusals.{fault_of}
 use Rattle.sql_bind.specs.Bound.{IsBoundFrom}
 use Rattle.run_meaning.specs.declared.status.Status.{Status}
 use Rattle.run_meaning.specs.declared.status.Status.TheVariants.{BadSql, NoMemory}
-use Rattle.run_outcome_meaning.specs.Outcome.{Work, running, fault_in, bound_work, judged_script, ScriptAsks}
-use Rattle.run_outcome_meaning.specs.FittingText.{ScriptText, FitsText}
-use Rattle.run_outcome_meaning.specs.Refusal.{RefusedAs, refused_map}
+use Rattle.run_exec_meaning.specs.Running.{Running, running, fault_in, bound_work, judged_script, ScriptAsks, ScriptText}
+use Rattle.run_files_meaning.specs.Refusal.{RefusedAs}
+use Rattle.run_files_meaning.proofs.Takes.{refused_map}
 
 -- a script that can be written has the forms of the dialect
 pub writable_form : (script : Script) → is_writable script ≡ true → script_form script ≡ true
@@ -55,7 +55,7 @@ same_tables script tables b bound = sym bound.tables
 
 -- the cells of the script's rows are those that are asked for
 pub cells_fit : (script : Script) (tables : List NamedTable) (b : BoundForm) (rows : RowTable) (cells : List ℕ) → IsBoundFrom script (schemas_in tables) b
-    → ((s : Script) → HasRowsOf s b → rows ≡ record { schema = b.columns; rows = script_rows s tables }) → cells ≡ cells_text rows → ScriptText tables script cells
+    → ((s : Script) → HasRowsOf s b → rows ≡ record { schema = b.columns; rows = script_rows s tables }) → cells ≡ cells_text rows → ScriptText (running tables script) cells
 cells_fit script tables b rows cells bound run text = record {
   columns = b.columns;
   bound = bound.columns;
@@ -64,11 +64,11 @@ cells_fit script tables b rows cells bound run text = record {
 
 -- what the text asks for, where its script is run
 pub text_asks : (text : List ℕ) (tables : List NamedTable) (script : Script) (cells : List ℕ) → ScriptAsks text (judged_script tables script)
-    → judged_script tables script ≡ Ok (running tables script) → ScriptText tables script cells → (work : Work) × ScriptAsks text (Ok work) × FitsText work cells
-text_asks text tables script cells asks judged fits = (running tables script, subst (λ (o : Result Work Status). ScriptAsks text o) judged asks, fits)
+    → judged_script tables script ≡ Ok (running tables script) → ScriptText (running tables script) cells → (work : Running) × ScriptAsks text (Ok work) × ScriptText work cells
+text_asks text tables script cells asks judged fits = (running tables script, subst (λ (o : Result Running Status). ScriptAsks text o) judged asks, fits)
 
 -- what the text asks for, where its script is not run
 pub text_refused : (text : List ℕ) (tables : List NamedTable) (script : Script) (status : Status) → ScriptAsks text (judged_script tables script)
     → RefusedAs status (λ s. judged_script tables script ≡ Err s) → RefusedAs status (λ s. ScriptAsks text (Err s))
 text_refused text tables script status asks r =
-    refused_map status (λ s. judged_script tables script ≡ Err s) (λ s. ScriptAsks text (Err s)) (λ s e. subst (λ (o : Result Work Status). ScriptAsks text o) e asks) r
+    refused_map status (λ s. judged_script tables script ≡ Err s) (λ s. ScriptAsks text (Err s)) (λ s e. subst (λ (o : Result Running Status). ScriptAsks text o) e asks) r

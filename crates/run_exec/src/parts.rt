@@ -5,8 +5,8 @@ ghost use Rattle.table_meaning.specs.Tables.{NamedTable};
 ghost use Rattle.table_text_meaning.specs.TableText.{TablesRead};
 ghost use Rattle.sql_meaning.specs.Texts.{SpellsOnly};
 ghost use Rattle.sql_meaning.specs.Scripts.{script_form};
-ghost use Rattle.run_outcome_meaning.specs.Outcome.{SqlAsks, ScriptAsks, judged_script};
-ghost use Rattle.run_outcome_meaning.specs.Refusal.{RefusedAs};
+ghost use Rattle.run_files_meaning.specs.Refusal.{RefusedAs};
+ghost use Rattle.run_exec_meaning.specs.Running.{SqlAsks, ScriptAsks, judged_script};
 
 use rel_cells::MemTables;
 use run_meaning::{SqlFault, Status};
@@ -23,7 +23,7 @@ pub struct Parts {
 }
 
 // The tables in front, and where the SQL begins.
-#[tactic(auto, using(run_outcome_meaning::specs::Outcome::is_bad))]
+#[tactic(auto, using(run_exec_meaning::specs::Running::is_bad))]
 fn front_tables(alloc: Global, text: &[u8]) -> Result<ReadTables, Status>
     ensures ok { IfOk result (λ read. TablesRead text.now read.tables read.sql_at) }
     ensures err { IfErr result (λ status. RefusedAs status (λ s. ScriptAsks text.now (Err s))) }

@@ -5,9 +5,8 @@ ghost use Rattle.sql_meaning.specs.Scripts.{script_form};
 ghost use Rattle.sql_rows_meaning.specs.Scopes.{schemas_in};
 ghost use Rattle.sql_bind.specs.Refusals.{fault_of};
 ghost use Rattle.sql_bind.specs.Bound.{IsBoundFrom};
-ghost use Rattle.run_outcome_meaning.specs.Outcome.{fault_in, judged_script, running};
-ghost use Rattle.run_outcome_meaning.specs.FittingText.{ScriptText};
-ghost use Rattle.run_outcome_meaning.specs.Refusal.{RefusedAs};
+ghost use Rattle.run_files_meaning.specs.Refusal.{RefusedAs};
+ghost use Rattle.run_exec_meaning.specs.Running.{fault_in, judged_script, running, ScriptText};
 
 use crate::parts::Parts;
 use crate::schemas::schemas_of;
@@ -17,6 +16,7 @@ use run_meaning::{SqlFault, Status};
 use sql_bind::{BindRefusal, Bound, bind};
 use sql_engine::execute;
 use std::alloc::Global;
+use std::thread::Threads;
 
 // The status of a script that doesn't bind.
 fn status_of(refusal: BindRefusal) -> Status
@@ -51,19 +51,24 @@ fn bind_parts(alloc: Global, parts: &Parts) -> Result<Bound, Status>
 
 /// The cells of the script's rows, or its first fault.
 #[tactic(auto, using(crate::proofs::Runs::same_tables, crate::proofs::Runs::bound_judged, crate::proofs::Runs::cells_fit))]
-pub(crate) fn run_parts(alloc: Global, parts: &Parts, pieces: u32) -> Result<Vec<u8>, Status>
+pub(crate) fn run_parts<R: Threads + Sync>(
+    rt: &R,
+    alloc: Global,
+    parts: &Parts,
+    pieces: u32,
+) -> Result<Vec<u8>, Status>
     requires form { IsTrue (script_form parts.now.script) }
     requires some { 1 ≤ pieces }
     requires few { pieces ≤ 64 }
     ensures judged { OnOk result (judged_script parts.now.tables parts.now.script ≡ Ok (running parts.now.tables parts.now.script)) }
-    ensures ok { IfOk result (λ cells. ScriptText parts.now.tables parts.now.script cells.items) }
+    ensures ok { IfOk result (λ cells. ScriptText (running parts.now.tables parts.now.script) cells.items) }
     ensures err { IfErr result (λ status. RefusedAs status (λ s. judged_script parts.now.tables parts.now.script ≡ Err s)) }
 {
     let bound = match bind_parts(alloc, parts) {
         Ok(bound) => bound,
         Err(status) => return Err(status),
     };
-    let rows = execute(alloc, &bound, &parts.tables, pieces)?;
+    let rows = execute(rt, alloc, &bound, &parts.tables, pieces)?;
     let mut cells = Vec::new(alloc);
     write_cells(&rows, &mut cells)?;
     Ok(cells)

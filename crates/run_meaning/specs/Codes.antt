@@ -1,5 +1,5 @@
 -- The exit code and the line of each status.
-use Rattle.std.specs.Prelude.{ℕ, List, [], ◌++◌, codes, decimal}
+use Rattle.std.specs.Prelude.{ℕ, ◌==◌, if◌then◌else◌, List, [], ◌++◌, codes, decimal}
 use Rattle.run_meaning.specs.declared.which.Which.{Which}
 use Rattle.run_meaning.specs.declared.which.Which.TheVariants.{File, Line, Query, Patterns, Variables, Groups, Blocks, Depth, Keys, Digits, Terms, Triples}
 use Rattle.sparql_meaning.specs.declared.word.Feature.{Feature}
@@ -14,7 +14,7 @@ use Rattle.run_meaning.specs.declared.status.Status.TheVariants.{Done, Usage, Ba
 abbrev pub code_of : Status → ℕ
 code_of Done = 0
 code_of Usage = 2
-code_of (BadData line) = 3
+code_of (BadData file line) = 3
 code_of (BadQuery why) = 4
 code_of (Limit which) = 5
 code_of (ReadFault name) = 6
@@ -26,7 +26,7 @@ code_of NotYet = 20
 code_of NoMemory = 70
 
 abbrev pub usage_line : List ℕ
-usage_line = codes "db2rdf: usage: db2rdf query|show|plan [options] DATA QUERY; stats [options] DATA; exec [--pieces N] FILE; drill [options] N SEED\n"
+usage_line = codes "db2rdf: usage: db2rdf query|show|plan [options] DATA... QUERY; stats [options] DATA...; exec [--pieces N] FILE; drill [options] N SEED\n"
 
 abbrev pub name_of : Which → List ℕ
 name_of File = codes "file"
@@ -89,11 +89,15 @@ text_of_fault (Twice select) = in_select (codes "twice") select
 text_of_fault (KindClash select) = in_select (codes "kind clash") select
 text_of_fault (NotTruth select) = in_select (codes "not truth") select
 
+-- the first data file isn't named
+abbrev pub of_file : ℕ → List ℕ
+of_file file = if file == 0 then [] else codes " of file " ++ decimal file
+
 -- what is put on the error output
 abbrev pub line_of : Status → List ℕ
 line_of Done = []
 line_of Usage = usage_line
-line_of (BadData line) = codes "db2rdf: bad data at line " ++ (decimal line ++ codes "\n")
+line_of (BadData file line) = codes "db2rdf: bad data at line " ++ (decimal line ++ (of_file file ++ codes "\n"))
 line_of (BadQuery why) = codes "db2rdf: bad query: " ++ (text_of_query_fault why ++ codes "\n")
 line_of (Limit which) = codes "db2rdf: limit: " ++ (name_of which ++ codes "\n")
 line_of (ReadFault name) = codes "db2rdf: cannot read " ++ (name ++ codes "\n")

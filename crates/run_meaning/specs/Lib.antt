@@ -1,3 +1,5 @@
 pub mod Codes
 pub mod Words
 pub mod Limits
+pub mod Ranges
+pub mod Spelling

@@ -1,10 +1,11 @@
 -- The words of the command line, behind the program's name.
-use Rattle.std.specs.Prelude.{ℕ, Bool, false, List, [], ◌∷◌, length, take, Option, Some, None, is_none, unwrap_or, ◌&&◌, ◌||◌, ◌==◌, nat_le, if◌then◌else◌, codes}
-use Rattle.std.specs.List.{list_all}
+use Rattle.std.specs.Prelude.{ℕ, Bool, false, List, [], ◌∷◌, length, take, Option, Some, None, is_none, unwrap_or, ◌&&◌, ◌==◌, nat_le, if◌then◌else◌, codes}
+use Rattle.std.specs.List.{list_all, list_any}
 use Rattle.std.specs.Str.{bytes_eq}
 use Rattle.rdf_meaning.specs.Characters.{is_digit, is_between}
 use Rattle.rdf_meaning.specs.Terms.{is_empty}
 use Rattle.rdf_meaning.specs.Digits.{number_of_digits}
+use Rattle.run_meaning.specs.Limits.{most_columns, most_hashes, most_pieces, most_drill, are_data_names}
 use Rattle.run_meaning.specs.declared.command.Layout.{Layout}
 use Rattle.run_meaning.specs.declared.command.Layout.TheVariants.{Colour, Hash, File}
 use Rattle.run_meaning.specs.declared.command.Options.{Options}
@@ -64,10 +65,10 @@ with_layout given layout = once given.layout layout >>= λ l. Some (record given
 -- an option whose value is a number
 abbrev pub with_number : Given → Word → Word → Option Given
 with_number given name value =
-    if bytes_eq name (codes "--columns") then (once given.columns (number_in 1 32 value) >>= λ n. Some (record given { columns = Some n }))
-    else (if bytes_eq name (codes "--reverse") then (once given.reverse (number_in 1 32 value) >>= λ n. Some (record given { reverse = Some n }))
-    else (if bytes_eq name (codes "--hashes") then (once given.hashes (number_in 1 4 value) >>= λ n. Some (record given { hashes = Some n }))
-    else (if bytes_eq name (codes "--pieces") then (once given.pieces (number_in 1 64 value) >>= λ n. Some (record given { pieces = Some n }))
+    if bytes_eq name (codes "--columns") then (once given.columns (number_in 1 most_columns value) >>= λ n. Some (record given { columns = Some n }))
+    else (if bytes_eq name (codes "--reverse") then (once given.reverse (number_in 1 most_columns value) >>= λ n. Some (record given { reverse = Some n }))
+    else (if bytes_eq name (codes "--hashes") then (once given.hashes (number_in 1 most_hashes value) >>= λ n. Some (record given { hashes = Some n }))
+    else (if bytes_eq name (codes "--pieces") then (once given.pieces (number_in 1 most_pieces value) >>= λ n. Some (record given { pieces = Some n }))
     else None)))
 
 -- one option with its value
@@ -96,37 +97,49 @@ options_of given = record {
 abbrev pub only_pieces : Given → Bool
 only_pieces given = is_none given.columns && (is_none given.reverse && (is_none given.hashes && is_none given.layout))
 
--- DATA QUERY
-abbrev pub two_names : List Word → Option (Word × Word)
-two_names (data_name ∷ query_name ∷ []) = if is_option data_name || is_option query_name then None else Some (data_name, query_name)
-two_names _ = None
+-- DATA..: 1 to 16 files
+abbrev pub data_names : List Word → Option (List Word)
+data_names names = if list_any is_option names then None else (if are_data_names names then Some names else None)
 
--- DATA, or FILE
+-- the last one of a word and those behind it, apart from those before it
+abbrev pub last_from : Word → List Word → List Word × Word
+last_from word [] = ([], word)
+last_from word (next ∷ behind) = (word ∷ (last_from next behind).0, (last_from next behind).1)
+
+abbrev pub last_apart : List Word → Option (List Word × Word)
+last_apart [] = None
+last_apart (word ∷ words) = Some (last_from word words)
+
+-- DATA.. QUERY
+abbrev pub data_and_query : List Word → Option (List Word × Word)
+data_and_query names = last_apart names >>= λ n. if is_option n.1 then None else (data_names n.0 >>= λ d. Some (d, n.1))
+
+-- FILE
 abbrev pub one_name : List Word → Option Word
 one_name (name ∷ []) = if is_option name then None else Some name
 one_name _ = None
 
 -- N SEED
 abbrev pub two_numbers : List Word → Option (ℕ × ℕ)
-two_numbers (count ∷ seed ∷ []) = number_in 1 100000 count >>= λ n. number_in 0 4294967295 seed >>= λ s. Some (n, s)
+two_numbers (count ∷ seed ∷ []) = number_in 1 most_drill count >>= λ n. number_in 0 4294967295 seed >>= λ s. Some (n, s)
 two_numbers _ = None
 
-abbrev pub over_two_files : Word → Options → Word → Word → Option Command
-over_two_files word options data_name query_name =
-    if bytes_eq word (codes "query") then Some (Query options data_name query_name)
-    else (if bytes_eq word (codes "show") then Some (Show options data_name query_name)
-    else (if bytes_eq word (codes "plan") then Some (Plan options data_name query_name) else None))
+abbrev pub over_query : Word → Options → List Word → Word → Option Command
+over_query word options data_files query_name =
+    if bytes_eq word (codes "query") then Some (Query options data_files query_name)
+    else (if bytes_eq word (codes "show") then Some (Show options data_files query_name)
+    else (if bytes_eq word (codes "plan") then Some (Plan options data_files query_name) else None))
 
 abbrev pub exec_from : Given → List Word → Option Command
 exec_from given names = if only_pieces given then (one_name names >>= λ name. Some (Exec (unwrap_or given.pieces 1) name)) else None
 
--- stats [options] DATA; exec [--pieces N] FILE; drill [options] N SEED; query|show|plan [options] DATA QUERY
+-- stats [options] DATA..; exec [--pieces N] FILE; drill [options] N SEED; query|show|plan [options] DATA.. QUERY
 abbrev pub command_from : Word → Given → List Word → Option Command
 command_from word given names =
-    if bytes_eq word (codes "stats") then (one_name names >>= λ name. Some (Stats (options_of given) name))
+    if bytes_eq word (codes "stats") then (data_names names >>= λ d. Some (Stats (options_of given) d))
     else (if bytes_eq word (codes "exec") then exec_from given names
     else (if bytes_eq word (codes "drill") then (two_numbers names >>= λ n. Some (Drill (options_of given) n.0 n.1))
-    else (two_names names >>= λ n. over_two_files word (options_of given) n.0 n.1)))
+    else (data_and_query names >>= λ n. over_query word (options_of given) n.0 n.1)))
 
 -- the command that the words are
 abbrev pub command_of : List Word → Option Command

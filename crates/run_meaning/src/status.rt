@@ -16,8 +16,8 @@ pub enum Status {
     Done,
     /// The words are not in the grammar of the command line.
     Usage,
-    /// This line of the data file is the first one that is out of the grammar.
-    BadData { line: u64 },
+    /// This line of this data file, counted from 0, is the first one that is out of the grammar.
+    BadData { file: u32, line: u64 },
     /// The query is refused.
     BadQuery { why: QueryFault },
     /// A quantity passed its limit.

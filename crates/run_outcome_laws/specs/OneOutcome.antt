@@ -1,28 +1,67 @@
--- A command over texts asks for one thing at most.
-use Rattle.std.specs.Prelude.{◌≡◌, ℕ, Bool, true, false, List, drop, length, Result, Ok, Err, nat_lt}
-use Rattle.std.specs.Bool.{MatchBool}
-use Rattle.std.proofs.Common.{refl, sym, ap, subst, ◌∙◌}
+-- Where its files are told, a job asks for exactly one thing.
+use Rattle.std.specs.Prelude.{◌≡◌, ℕ, List, drop, Option, Some, None, Result, Ok, Err}
+use Rattle.std.proofs.Common.{refl, sym, ap, subst, ◌∙◌, inl, inr, ◌⊎◌}
 use Rattle.line_change_meaning.specs.declared.change.Change.{Change}
-use Rattle.colouring_file_meaning.specs.ColourLines.{ColourOf}
 use Rattle.query_meaning.specs.declared.query.Query.{Query as AlgebraQuery}
 use Rattle.sparql_query_meaning.specs.declared.refusal.QueryRefusal.{QueryRefusal}
+use Rattle.sparql_query_meaning.specs.Queries.{IsTheQuery, QueryRefused}
 use Rattle.sparql_refusals.specs.Laws.{QueriesAreNotRefused, RefusalsAreUnique}
+use Rattle.sparql_refusal_laws.specs.EachText.{NoTextIsNeither}
 use Rattle.table_meaning.specs.Tables.{NamedTable}
-use Rattle.table_text.specs.Laws.{OneReading, NeverBoth, OneBadLine}
+use Rattle.table_text_meaning.specs.TableText.{TablesRead, IsFirstBadLine}
+use Rattle.table_text.specs.Laws.{OneReading, NeverBoth, OneBadLine, ReadOrBad}
+use Rattle.sql_meaning.specs.Texts.{SpellsOnly, HasDeepToken, BreaksAt}
+use Rattle.sql_meaning.specs.declared.script.Script.{Script}
 use Rattle.sql_text_cut_laws.specs.Outcomes.{spelled_texts_dont_break}
+use Rattle.sql_text_refusal_laws.specs.EachText.{NoSqlTextIsNeither}
 use Rattle.run_meaning.specs.declared.fault.SqlFault.TheVariants as fault
 use Rattle.run_meaning.specs.declared.status.Status.{Status}
-use Rattle.run_meaning.specs.declared.status.Status.TheVariants.{Limit, BadTables, BadSql}
-use Rattle.run_meaning.specs.declared.which.Which.TheVariants as which
-use Rattle.run_meaning.specs.declared.command.Options.{Options}
+use Rattle.run_meaning.specs.declared.status.Status.TheVariants.{Usage, BadTables, BadSql, NotYet}
 use Rattle.run_meaning.specs.declared.command.Command.{Command}
 use Rattle.run_meaning.specs.declared.command.Command.TheVariants.{Query, Show, Plan, Stats, Exec, Drill}
-use Rattle.run_outcome_meaning.specs.QueryFile.{status_of, judged_query, QueryAsks, is_query, is_refused}
-use Rattle.run_outcome_meaning.specs.Outcome.{Texts, Work, answering, counting, judged_data, judged_work, AnswerAsks, has_query, has_none, judged_script, SqlAsks, reads, is_deep, breaks, ScriptAsks, has_tables, is_bad, colours_for, Behind, BehindBoth, Asks}
+use Rattle.run_files_meaning.specs.Intake.{Contents, settled, Leads, IsTold}
+use Rattle.run_files_meaning.specs.Files.{judged_work}
+use Rattle.run_files_meaning.specs.Job.{Job, no_job, AsksBehind, AsksFor}
+use Rattle.run_files_meaning.proofs.Leads.{one_end, some_end}
+use Rattle.run_query_meaning.specs.QueryFile.{status_of, judged_query, QueryAsks, is_query, is_refused}
+use Rattle.run_query_meaning.specs.Answering.{Answering, answering, AnswerAsks, has_query, has_none, query_job}
+use Rattle.run_stats_meaning.specs.Counting.{Counting, stats_job}
+use Rattle.run_exec_meaning.specs.Running.{Running, judged_script, SqlAsks, reads_script, is_deep, breaks, ScriptAsks, has_tables, is_bad, exec_job}
+use Rattle.run_outcome_meaning.specs.Jobs.{job_of, job_asked}
 use Rattle.run_outcome_laws.specs.BreakPlaces.{breaks_at_one_place, deep_texts_dont_break}
 
-abbrev Outcome : Type 0
-Outcome = Result Work Status
+-- a job asks for one thing at most, where each of its files that is reached is told
+abbrev pub AsksOnce : Job → Type 0
+AsksOnce job = (contents : Contents) → IsTold job.intake contents → (o p : Result job.Work Status) → AsksFor job contents o → AsksFor job contents p → o ≡ p
+
+-- and never for nothing
+abbrev pub AsksSomething : Job → Type 0
+AsksSomething job = (contents : Contents) → IsTold job.intake contents → ((o : Result job.Work Status) → AsksFor job contents o → ⊥) → ⊥
+
+-- so does the job of any words
+abbrev pub JobsAskOnce : Type 0
+JobsAskOnce = (command : Option Command) → AsksOnce (job_asked command)
+
+abbrev pub JobsAskSomething : Type 0
+JobsAskSomething = (command : Option Command) → AsksSomething (job_asked command)
+
+-- ---- any job
+
+asks_once : (job : Job) → ((input : job.Input) (o p : Result job.Work Status) → job.Asks input o → job.Asks input p → o ≡ p) → AsksOnce job
+asks_once job once contents told o p a b =
+    let same : a.given ≡ b.given = one_end contents job.intake told a.given b.given a.leads b.leads in
+    by a.given a.asks (subst (λ (r : Result job.Input Status). AsksBehind job r p) (sym same) b.asks)
+  where
+    by : (r : Result job.Input Status) → AsksBehind job r o → AsksBehind job r p → o ≡ p
+    by (Ok input) x y = once input o p x y
+    by (Err status) x y = x ∙ sym y
+
+asks_something : (job : Job) → ((input : job.Input) → ((o : Result job.Work Status) → job.Asks input o → ⊥) → ⊥) → AsksSomething job
+asks_something job some contents told none = let end = some_end contents job.intake told in by end.0 end.1
+  where
+    by : (r : Result job.Input Status) → Leads contents job.intake (settled r) → ⊥
+    by (Ok input) leads = some input (λ o a. none o (record { given = Ok input; leads = leads; asks = a }))
+    by (Err status) leads = none (Err status) (record { given = Err status; leads = leads; asks = refl })
 
 -- ---- the text of a query
 
@@ -50,66 +89,88 @@ same_status s t e = cc
 never_both : (q : AlgebraQuery) (s : Status) → read_as q ≡ not_read s → ⊥
 never_both q s e = cc
 
-answer_asks_once : QueriesAreNotRefused → RefusalsAreUnique → (changes : List Change) (text : List ℕ) (o p : Outcome) → AnswerAsks changes text o → AnswerAsks changes text p → o ≡ p
+answer_asks_once : QueriesAreNotRefused → RefusalsAreUnique → (changes : List Change) (text : List ℕ) (o p : Result Answering Status) → AnswerAsks changes text o → AnswerAsks changes text p → o ≡ p
 answer_asks_once never one changes text o p (has_query q a) (has_query r b) =
     ap (λ (x : AlgebraQuery). judged_work changes (answering changes x)) (same_query q r (query_asks_once never one text (Ok q) (Ok r) a b))
 answer_asks_once never one changes text o p (has_query q a) (has_none s b) = absurd (never_both q s (query_asks_once never one text (Ok q) (Err s) a b))
 answer_asks_once never one changes text o p (has_none s a) (has_query q b) = absurd (never_both q s (query_asks_once never one text (Ok q) (Err s) b a))
 answer_asks_once never one changes text o p (has_none s a) (has_none t b) =
-    ap (λ (x : Status). let status : Outcome = Err x in status) (same_status s t (query_asks_once never one text (Err s) (Err t) a b))
+    ap (λ (x : Status). let status : Result Answering Status = Err x in status) (same_status s t (query_asks_once never one text (Err s) (Err t) a b))
 
--- ---- behind a file
+answer_asks_something : NoTextIsNeither → (changes : List Change) (text : List ℕ) → ((o : Result Answering Status) → AnswerAsks changes text o → ⊥) → ⊥
+answer_asks_something each changes text none = each text by_query by_refusal
+  where
+    asked : (r : Read) → QueryAsks text r → ⊥
+    asked (Ok q) a = none (judged_work changes (answering changes q)) (has_query q a)
+    asked (Err s) a = none (Err s) (has_none s a)
 
-behind_once : {X : Type 0} (P : X → Outcome → Type 0) → ((x : X) (o p : Outcome) → P x o → P x p → o ≡ p)
-    → (d : Result X Status) (o p : Outcome) → Behind d P o → Behind d P p → o ≡ p
-behind_once P once (Ok x) o p a b = once x o p a b
-behind_once P once (Err status) o p a b = a ∙ sym b
+    by_query : (q : AlgebraQuery) → IsTheQuery text q → ⊥
+    by_query q a = asked (judged_query q) (is_query q a)
 
-behind_both_once : (options : Options) (data_name : List ℕ) (texts : Texts) (P : List ColourOf → List Change → Outcome → Type 0)
-    → ((colours : List ColourOf) (changes : List Change) (o p : Outcome) → P colours changes o → P colours changes p → o ≡ p)
-    → (o p : Outcome) → BehindBoth options texts data_name P o → BehindBoth options texts data_name P p → o ≡ p
-behind_both_once options data_name texts P once o p a b =
-    behind_once (λ (colours : List ColourOf). Behind (judged_data (texts data_name)) (P colours)) (λ colours. behind_once (P colours) (once colours) (judged_data (texts data_name)))
-    (colours_for options texts) o p a b
+    by_refusal : (r : QueryRefusal) → QueryRefused text r → ⊥
+    by_refusal r a = asked (Err (status_of r)) (is_refused r a)
 
 -- ---- a text of tables and SQL
 
-sql_asks_once : (tables : List NamedTable) (sql : List ℕ) (o p : Outcome) → SqlAsks tables sql o → SqlAsks tables sql p → o ≡ p
-sql_asks_once tables sql o p (reads s a) (reads t b) = ap (judged_script tables) (b.only s a.spells)
-sql_asks_once tables sql o p (reads s a) (is_deep b) = absurd (a.no_deep b)
-sql_asks_once tables sql o p (reads s a) (breaks n b) = absurd (spelled_texts_dont_break sql s n a.spells b)
-sql_asks_once tables sql o p (is_deep a) (reads t b) = absurd (b.no_deep a)
+sql_asks_once : (tables : List NamedTable) (sql : List ℕ) (o p : Result Running Status) → SqlAsks tables sql o → SqlAsks tables sql p → o ≡ p
+sql_asks_once tables sql o p (reads_script s a) (reads_script t b) = ap (judged_script tables) (b.only s a.spells)
+sql_asks_once tables sql o p (reads_script s a) (is_deep b) = absurd (a.no_deep b)
+sql_asks_once tables sql o p (reads_script s a) (breaks n b) = absurd (spelled_texts_dont_break sql s n a.spells b)
+sql_asks_once tables sql o p (is_deep a) (reads_script t b) = absurd (b.no_deep a)
 sql_asks_once tables sql o p (is_deep a) (is_deep b) = refl
 sql_asks_once tables sql o p (is_deep a) (breaks n b) = absurd (deep_texts_dont_break sql n a b)
-sql_asks_once tables sql o p (breaks m a) (reads t b) = absurd (spelled_texts_dont_break sql t m b.spells a)
+sql_asks_once tables sql o p (breaks m a) (reads_script t b) = absurd (spelled_texts_dont_break sql t m b.spells a)
 sql_asks_once tables sql o p (breaks m a) (is_deep b) = absurd (deep_texts_dont_break sql m b a)
 sql_asks_once tables sql o p (breaks m a) (breaks n b) =
-    ap (λ (at : ℕ). let status : Outcome = Err (BadSql (fault.Syntax at)) in status) (breaks_at_one_place sql m n a b)
+    ap (λ (at : ℕ). let status : Result Running Status = Err (BadSql (fault.Syntax at)) in status) (breaks_at_one_place sql m n a b)
 
-script_asks_once : OneReading → NeverBoth → OneBadLine → (text : List ℕ) (o p : Outcome) → ScriptAsks text o → ScriptAsks text p → o ≡ p
+script_asks_once : OneReading → NeverBoth → OneBadLine → (text : List ℕ) (o p : Result Running Status) → ScriptAsks text o → ScriptAsks text p → o ≡ p
 script_asks_once one never bad text o p (has_tables s m _ r a) (has_tables t n _ q b) =
     let same = one text t s n m q r in
     sql_asks_once s (drop m text) o p a
     (subst (λ (ts : List NamedTable). SqlAsks ts (drop m text) p) same.0 (subst (λ (at : ℕ). SqlAsks t (drop at text) p) same.1 b))
 script_asks_once one never bad text o p (has_tables s m _ r a) (is_bad line b) = absurd (never text s m line r b)
 script_asks_once one never bad text o p (is_bad line a) (has_tables t n _ q b) = absurd (never text t n line q a)
-script_asks_once one never bad text o p (is_bad k a) (is_bad l b) = ap (λ (line : ℕ). let status : Outcome = Err (BadTables line) in status) (bad text k l a b)
+script_asks_once one never bad text o p (is_bad k a) (is_bad l b) = ap (λ (line : ℕ). let status : Result Running Status = Err (BadTables line) in status) (bad text k l a b)
 
-file_asks_once : OneReading → NeverBoth → OneBadLine → (text : List ℕ) (long : Bool) (o p : Outcome)
-    → MatchBool long (o ≡ Err (Limit which.File)) (ScriptAsks text o) → MatchBool long (p ≡ Err (Limit which.File)) (ScriptAsks text p) → o ≡ p
-file_asks_once one never bad text true o p a b = a ∙ sym b
-file_asks_once one never bad text false o p a b = script_asks_once one never bad text o p a b
+script_asks_something : ReadOrBad → NoSqlTextIsNeither → (text : List ℕ) → ((o : Result Running Status) → ScriptAsks text o → ⊥) → ⊥
+script_asks_something either each text none = by (either text)
+  where
+    behind_tables : (tables : List NamedTable) (at : ℕ) → TablesRead text tables at → (o : Result Running Status) → SqlAsks tables (drop at text) o → ⊥
+    behind_tables tables at read o a = none o (has_tables tables at o read a)
 
--- whatever a command over texts asks for is one thing
-abbrev pub AskOnce : Type 0
-AskOnce = (command : Command) (texts : Texts) (o p : Result Work Status) → Asks command texts o → Asks command texts p → o ≡ p
+    by : ((tables : List NamedTable) × (at : ℕ) × TablesRead text tables at) ⊎ ((line : ℕ) × IsFirstBadLine text line) → ⊥
+    by (inl r) = each (drop r.1 text)
+        (λ (s : Script) (a : SpellsOnly (drop r.1 text) s). behind_tables r.0 r.1 r.2 (judged_script r.0 s) (reads_script s a))
+        (λ (a : HasDeepToken (drop r.1 text)). behind_tables r.0 r.1 r.2 (Err (BadSql fault.Deep)) (is_deep a))
+        (λ (n : ℕ) (a : BreaksAt (drop r.1 text) n). behind_tables r.0 r.1 r.2 (Err (BadSql (fault.Syntax n))) (breaks n a))
+    by (inr b) = none (Err (BadTables b.0)) (is_bad b.0 b.1)
 
-pub ask_once : QueriesAreNotRefused → RefusalsAreUnique → OneReading → NeverBoth → OneBadLine → AskOnce
-ask_once none unique one never bad (Query options data_name query_name) texts o p a b =
-    behind_both_once options data_name texts (λ colours changes. AnswerAsks changes (texts query_name)) (λ colours changes. answer_asks_once none unique changes (texts query_name)) o p a b
-ask_once none unique one never bad (Exec pieces file_name) texts o p a b = file_asks_once one never bad (texts file_name) (nat_lt 67108864 (length (texts file_name))) o p a b
-ask_once none unique one never bad (Show options data_name query_name) texts o p a b = a ∙ sym b
-ask_once none unique one never bad (Plan options data_name query_name) texts o p a b = a ∙ sym b
-ask_once none unique one never bad (Stats options data_name) texts o p a b =
-    behind_both_once options data_name texts (λ colours changes q. q ≡ judged_work changes (counting options colours changes)) (λ colours changes q r c d. c ∙ sym d) o p a b
-ask_once none unique one never bad (Drill options count seed) texts o p a b = a ∙ sym b
+-- ---- the job of any words
+
+none_once : (status : Status) → AsksOnce (no_job status)
+none_once status = asks_once (no_job status) (λ input o p a b. absurd a)
+
+none_something : (status : Status) → AsksSomething (no_job status)
+none_something status = asks_something (no_job status) (λ input none. absurd input)
+
+pub jobs_ask_once : QueriesAreNotRefused → RefusalsAreUnique → OneReading → NeverBoth → OneBadLine → JobsAskOnce
+jobs_ask_once none unique one never bad None = none_once Usage
+jobs_ask_once none unique one never bad (Some (Query options names name)) =
+    asks_once (query_job options names name) (λ files o p a b. answer_asks_once none unique files.changes files.text o p a b)
+jobs_ask_once none unique one never bad (Some (Exec pieces name)) = asks_once (exec_job name) (λ text o p a b. script_asks_once one never bad text o p a b)
+jobs_ask_once none unique one never bad (Some (Stats options names)) = asks_once (stats_job options names) (λ input o p a b. a ∙ sym b)
+jobs_ask_once none unique one never bad (Some (Show options names name)) = none_once NotYet
+jobs_ask_once none unique one never bad (Some (Plan options names name)) = none_once NotYet
+jobs_ask_once none unique one never bad (Some (Drill options count seed)) = none_once NotYet
+
+pub jobs_ask_something : NoTextIsNeither → ReadOrBad → NoSqlTextIsNeither → JobsAskSomething
+jobs_ask_something each either sql None = none_something Usage
+jobs_ask_something each either sql (Some (Query options names name)) =
+    asks_something (query_job options names name) (λ files none. answer_asks_something each files.changes files.text none)
+jobs_ask_something each either sql (Some (Exec pieces name)) = asks_something (exec_job name) (λ text none. script_asks_something either sql text none)
+jobs_ask_something each either sql (Some (Stats options names)) =
+    asks_something (stats_job options names) (λ input none. none (judged_work input.changes input) refl)
+jobs_ask_something each either sql (Some (Show options names name)) = none_something NotYet
+jobs_ask_something each either sql (Some (Plan options names name)) = none_something NotYet
+jobs_ask_something each either sql (Some (Drill options count seed)) = none_something NotYet

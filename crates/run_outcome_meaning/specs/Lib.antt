@@ -1,5 +1,2 @@
-pub mod QueryFile
-pub mod Outcome
-pub mod FittingText
+pub mod Jobs
 pub mod Causes
-pub mod Refusal

@@ -1,2 +1,2 @@
-//! What the words and the named files ask for, the texts that fit, and which status comes when.
+//! The job of each command, and which status comes when.
 #![tactic(auto)]

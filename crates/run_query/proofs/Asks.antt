@@ -6,23 +6,23 @@ use Rattle.line_change_meaning.specs.Present.{present}
 use Rattle.query_meaning.specs.declared.query.Query.{Query}
 use Rattle.sparql_query_meaning.specs.declared.refusal.QueryRefusal.{QueryRefusal}
 use Rattle.sparql_query_meaning.specs.declared.refusal.QueryRefusal.TheVariants as refusal
-use Rattle.sparql_query_meaning.specs.Queries.{QueryRefused}
+use Rattle.sparql_query_meaning.specs.Queries.{IsTheQuery, QueryRefused}
 use Rattle.sparql_refusals.specs.Outcomes.{Refuses, no_memory, refuses}
-use Rattle.sparql_reader.specs.Queries.{ReadsQuery}
 use Rattle.run_meaning.specs.declared.status.Status.{Status}
 use Rattle.run_meaning.specs.declared.status.Status.TheVariants.{NotYet}
 use Rattle.run_query.specs.Owed.{IsDue, IsOwed, for_form, for_limit}
-use Rattle.run_outcome_meaning.specs.QueryFile.{is_answered, status_of, judged_query, QueryAsks, is_query, is_refused}
-use Rattle.run_outcome_meaning.specs.Outcome.{Work, answering, judged_work, AnswerAsks, has_query, has_none}
-use Rattle.run_outcome_meaning.specs.FittingText.{query_text, FitsText}
-use Rattle.run_outcome_meaning.specs.Refusal.{RefusedAs, refused_map}
+use Rattle.run_query_meaning.specs.QueryFile.{is_answered, status_of, judged_query, QueryAsks, is_query, is_refused}
+use Rattle.run_files_meaning.specs.Files.{judged_work}
+use Rattle.run_query_meaning.specs.Answering.{Answering, answering, AnswerAsks, has_query, has_none, query_text, FitsAnswer}
+use Rattle.run_files_meaning.specs.Refusal.{RefusedAs}
+use Rattle.run_files_meaning.proofs.Takes.{refused_map}
 
 -- ---- the text
 
-query_asked : (text : List ℕ) (q : Query) → ReadsQuery text q → QueryAsks text (judged_query q)
-query_asked text q r = is_query q (record { is = r.is; only = r.only })
+query_asked : (text : List ℕ) (q : Query) → IsTheQuery text q → QueryAsks text (judged_query q)
+query_asked text q r = is_query q r
 
-asked_as : (text : List ℕ) (q : Query) (o : Result Query Status) → ReadsQuery text q → judged_query q ≡ o → QueryAsks text o
+asked_as : (text : List ℕ) (q : Query) (o : Result Query Status) → IsTheQuery text q → judged_query q ≡ o → QueryAsks text o
 asked_as text q o r e = subst (λ (x : Result Query Status). QueryAsks text x) e (query_asked text q r)
 
 refusal_asked : (text : List ℕ) (r : QueryRefusal) → QueryRefused text r → RefusedAs (status_of r) (λ s. QueryAsks text (Err s))
@@ -75,20 +75,20 @@ pub text_refused_first : {X : Type 0} (made : Result X Status) (changes : List C
 text_refused_first (Ok x) changes text status h r = absurd h
 text_refused_first (Err s) changes text status h r = subst (λ (y : Status). RefusedAs y (λ t. AnswerAsks changes text (Err t))) (sym h) (none_asked changes text status r)
 
-work_asked : (changes : List Change) (text : List ℕ) (q : Query) (o : Result Work Status) → QueryAsks text (Ok q) → judged_work changes (answering changes q) ≡ o → AnswerAsks changes text o
-work_asked changes text q o a e = subst (λ (x : Result Work Status). AnswerAsks changes text x) e (has_query q a)
+work_asked : (changes : List Change) (text : List ℕ) (q : Query) (o : Result Answering Status) → QueryAsks text (Ok q) → judged_work changes (answering changes q) ≡ o → AnswerAsks changes text o
+work_asked changes text q o a e = subst (λ (x : Result Answering Status). AnswerAsks changes text x) e (has_query q a)
 
-pub work_done : {X : Type 0} (items : X → List ℕ) (made : Result X Status) (changes : List Change) (text : List ℕ) (q : Query) → ReadsQuery text q
+pub work_done : {X : Type 0} (items : X → List ℕ) (made : Result X Status) (changes : List Change) (text : List ℕ) (q : Query) → IsTheQuery text q
     → IfOk made (λ x. items x ≡ query_text q (present changes)) → OnOk made (IsDue changes q)
-    → IfOk made (λ x. (work : Work) × AnswerAsks changes text (Ok work) × FitsText work (items x))
+    → IfOk made (λ x. (work : Answering) × AnswerAsks changes text (Ok work) × FitsAnswer work (items x))
 work_done items (Ok x) changes text q a is h = (answering changes q, work_asked changes text q (Ok (answering changes q)) (asked_as text q (Ok q) a h.form) h.within, is)
 work_done items (Err status) changes text q a is h = is
 
-owed_asked : (changes : List Change) (text : List ℕ) (q : Query) → ReadsQuery text q → (s : Status) → IsOwed changes q s → AnswerAsks changes text (Err s)
+owed_asked : (changes : List Change) (text : List ℕ) (q : Query) → IsTheQuery text q → (s : Status) → IsOwed changes q s → AnswerAsks changes text (Err s)
 owed_asked changes text q a s (for_form e) = has_none s (asked_as text q (Err s) a e)
 owed_asked changes text q a s (for_limit e h) = work_asked changes text q (Err s) (asked_as text q (Ok q) a e) h
 
-pub work_refused : {X : Type 0} (made : Result X Status) (changes : List Change) (text : List ℕ) (q : Query) → ReadsQuery text q
+pub work_refused : {X : Type 0} (made : Result X Status) (changes : List Change) (text : List ℕ) (q : Query) → IsTheQuery text q
     → IfErr made (λ status. RefusedAs status (IsOwed changes q)) → IfErr made (λ status. RefusedAs status (λ s. AnswerAsks changes text (Err s)))
 work_refused (Ok x) changes text q a r = r
 work_refused (Err status) changes text q a r = refused_map status (IsOwed changes q) (λ s. AnswerAsks changes text (Err s)) (owed_asked changes text q a) r

@@ -21,8 +21,8 @@ use Rattle.query_eval_meaning.specs.EvalLaws.{eval_at-Leaf}
 use Rattle.query_eval_meaning.specs.Answer.{Row, ordered_answer}
 use Rattle.query_eval_meaning.specs.AnswerText.{answer_text}
 use Rattle.query_pattern_answer.specs.Rows.{name_of, names_at, showing, pattern_text}
-use Rattle.run_outcome_meaning.specs.QueryFile.{pattern_of_leaf, only_pattern, is_plain, is_answered}
-use Rattle.run_outcome_meaning.specs.FittingText.{shown_names, query_text}
+use Rattle.run_query_meaning.specs.QueryFile.{pattern_of_leaf, only_pattern, is_plain, is_answered}
+use Rattle.run_query_meaning.specs.Answering.{shown_names, query_text}
 
 abbrev Level : Type 0
 Level = Tree-F (List Pattern) (Tree (List Pattern))

@@ -3,8 +3,9 @@ use Rattle.std.specs.Prelude.{◌≡◌, List, Ok, Err}
 use Rattle.line_change_meaning.specs.declared.change.Change.{Change}
 use Rattle.query_meaning.specs.declared.query.Query.{Query}
 use Rattle.run_meaning.specs.declared.status.Status.{Status}
-use Rattle.run_outcome_meaning.specs.QueryFile.{judged_query}
-use Rattle.run_outcome_meaning.specs.Outcome.{answering, judged_work}
+use Rattle.run_query_meaning.specs.QueryFile.{judged_query}
+use Rattle.run_files_meaning.specs.Files.{judged_work}
+use Rattle.run_query_meaning.specs.Answering.{answering}
 
 -- an answer
 pub record IsDue (changes : List Change) (query : Query) : Type 0 where

@@ -2,7 +2,7 @@
 
 ghost use Rattle.std.specs.Prelude.{◌≡◌, true, false, Some, None, IfSome, MatchOption};
 ghost use Rattle.query_meaning.specs.declared.tree.Tree.TheOpen.{Leaf};
-ghost use Rattle.run_outcome_meaning.specs.QueryFile.{pattern_of_leaf, only_pattern, is_plain, is_answered};
+ghost use Rattle.run_query_meaning.specs.QueryFile.{pattern_of_leaf, only_pattern, is_plain, is_answered};
 
 use query_meaning::{Modifiers, Pattern, Query, Tree};
 use sqlite_items::Items;

@@ -1,7 +1,7 @@
 //! Refusals of a query file, as statuses.
 
 ghost use Rattle.std.specs.Prelude.{◌≡◌};
-ghost use Rattle.run_outcome_meaning.specs.QueryFile.{limit_of, status_of};
+ghost use Rattle.run_query_meaning.specs.QueryFile.{limit_of, status_of};
 
 use run_meaning::{QueryFault, Status, Which};
 use sparql_reader::{QueryLimit, QueryRefusal};

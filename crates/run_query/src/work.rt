@@ -4,12 +4,12 @@ ghost use Rattle.std.specs.Prelude.{◌≡◌, true, List, Some, IfOk, IfErr, On
 ghost use Rattle.bags.specs.Bag.{SameBag};
 ghost use Rattle.line_change_meaning.specs.declared.change.Change.{Change};
 ghost use Rattle.line_change_meaning.specs.Present.{present};
-ghost use Rattle.run_outcome_meaning.specs.QueryFile.{only_pattern, is_answered, QueryAsks};
-ghost use Rattle.run_outcome_meaning.specs.Outcome.{Work, answering, judged_work, AnswerAsks};
-ghost use Rattle.run_outcome_meaning.specs.FittingText.{query_text, FitsText};
-ghost use Rattle.run_outcome_meaning.specs.Refusal.{RefusedAs};
+ghost use Rattle.run_files_meaning.specs.Files.{judged_work};
+ghost use Rattle.run_files_meaning.specs.Refusal.{RefusedAs};
+ghost use Rattle.run_query_meaning.specs.QueryFile.{only_pattern, is_answered, QueryAsks};
+ghost use Rattle.run_query_meaning.specs.Answering.{Answering, answering, AnswerAsks, FitsAnswer, query_text};
+ghost use Rattle.sparql_query_meaning.specs.Queries.{IsTheQuery};
 ghost use Rattle.run_query.specs.Owed.{IsDue, IsOwed};
-ghost use Rattle.sparql_reader.specs.Queries.{ReadsQuery};
 
 use crate::forms::asked_pattern;
 use crate::refusals::status_of;
@@ -72,7 +72,7 @@ fn answer_read(alloc: Global, changes: Vec<Change>, query: &Query) -> Result<Vec
 
 // The query of a text, or the status that the text asks for where it is none.
 fn read_asked(alloc: Global, text: &[u8]) -> Result<Query, Status>
-    ensures ok { IfOk result (λ query. ReadsQuery text.now query) }
+    ensures ok { IfOk result (λ query. IsTheQuery text.now query) }
     ensures refused { IfErr result (λ status. RefusedAs status (λ s. QueryAsks text.now (Err s))) }
 {
     match read_query(alloc, text) {
@@ -87,7 +87,7 @@ fn read_asked(alloc: Global, text: &[u8]) -> Result<Query, Status>
 /// several, with OPTIONAL, UNION or FILTER, or with DISTINCT, ORDER BY, LIMIT or an OFFSET above 0, isn't
 /// answered yet.
 pub fn query_text(alloc: Global, changes: Vec<Change>, text: &[u8]) -> Result<Vec<u8>, Status>
-    ensures ok { IfOk result (λ answer. (work : Work) × AnswerAsks changes.items text.now (Ok work) × FitsText work answer.items) }
+    ensures ok { IfOk result (λ answer. (work : Answering) × AnswerAsks changes.items text.now (Ok work) × FitsAnswer work answer.items) }
     ensures err { IfErr result (λ status. RefusedAs status (λ s. AnswerAsks changes.items text.now (Err s))) }
 {
     let query = read_asked(alloc, text)?;

@@ -1,107 +1,24 @@
--- What is counted of the changes that were cut and placed.
-use Rattle.std.proofs.Common.{◌≡◌, ℕ, ◌+◌, ◌<◌, ◌^◌, Bool, true, false, if◌then◌else◌, List, [], ◌∷◌, ◌++◌, map, fold, length, length-append, None, refl, ap, ◌∙◌, arith, subst}
-use Rattle.std.specs.Global.{Vec}
-use Rattle.bags.specs.Bag.{SameBag}
-use Rattle.rdf_meaning.specs.Terms.{RdfTriple}
+-- What is counted of the store of a run.
+use Rattle.std.proofs.Common.{◌≡◌, ℕ, List, subst}
 use Rattle.line_change_meaning.specs.declared.change.Change.{Change}
-use Rattle.line_change_meaning.specs.declared.change.Change.TheVariants.{Add}
-use Rattle.line_change_meaning.specs.Present.{named, bulk, present}
-use Rattle.layout_standing_meaning.specs.Stored.{StoreOf, layout_of, tables_of, stored_triples}
-use Rattle.layout_stats_meaning.specs.Statistics.{StatsOf, AreStats}
-use Rattle.layout_bulk_laws.specs.BulkStore.{terms_of, bulk_items, bulk_store}
-use Rattle.layout_columns_meaning.specs.Layouts.{ChoiceOf, IsLayoutFor}
-use Rattle.layout_placed_meaning.specs.Placed.{changed_in, later_changes, placed_store}
-use Rattle.layout_placed_meaning.specs.Chosen.{known_on, known_by, is_coloured, choice_of, IsBulkLayout}
-use Rattle.layout_placed_laws.proofs.Steps.{parts}
-use Rattle.layout_placed_laws.proofs.Same.{same-stats}
-use Rattle.run_command_laws.specs.Ranges.{AreInRange}
-use Rattle.run_meaning.specs.declared.command.Layout.{Layout}
-use Rattle.run_meaning.specs.declared.command.Layout.TheVariants.{Colour, Hash, File}
+use Rattle.line_change_meaning.specs.Present.{present}
+use Rattle.colouring_file_meaning.specs.ColourLines.{ColourOf}
 use Rattle.run_meaning.specs.declared.command.Options.{Options}
-use Rattle.rdf_meaning.specs.declared.side.SideName.{SideName}
-use Rattle.rdf_meaning.specs.declared.side.SideName.TheVariants.{Direct, Reverse}
-use Rattle.pred_columns.specs.Refusal.{known_of}
-use Rattle.colouring_file_meaning.specs.ColourLines.{ColourOf, same_side, AreFit}
-use Rattle.colouring_file.specs.Colours.{colour_of}
-use Rattle.colouring_file.specs.declared.colours.ColourLine.{ColourLine}
-use Rattle.layout_choice.specs.Chosen.{pair_of, pairs_on, choice_made, refusal_chosen}
-use Rattle.layout_choice.specs.Fit.{AreCounts, FitColoursAreTaken, OtherWaysAreTaken}
-use Rattle.run_stats.specs.Counted.{way_for, AreCounted}
+use Rattle.layout_standing_meaning.specs.Stored.{StoreOf, layout_of, tables_of, stored_triples}
+use Rattle.layout_stats_meaning.specs.Statistics.{StatsOf, AreStats, stats_text}
+use Rattle.layout_placed_meaning.specs.Chosen.{IsCounted}
+use Rattle.layout_placed_meaning.specs.RunStores.{IsRunStore}
+use Rattle.layout_placed_laws.proofs.Same.{same-stats}
 
--- both parts of what was cut
-pub whole : (changes later : List Change) (triples : List RdfTriple) → triples ≡ map named (bulk changes) → later ≡ later_changes changes → map Add triples ++ later ≡ changes
-whole changes later triples b l = ap (λ (ts : List RdfTriple). map Add ts ++ later) b ∙ ap (λ (cs : List Change). map Add (map named (bulk changes)) ++ cs) l ∙ parts changes
-
-adds-length : (triples : List RdfTriple) → length (map Add triples) ≡ length triples
-adds-length [] = refl
-adds-length (t ∷ triples) = omega (arith, adds-length triples)
-
-pub cut-few : (changes later : List Change) (triples : List RdfTriple) → triples ≡ map named (bulk changes) → later ≡ later_changes changes → length changes < 2 ^ 62 → length triples + length later < 2 ^ 62
-cut-few changes later triples b l few =
-    let e : length (map Add triples ++ later) ≡ length changes = ap (λ (cs : List Change). length cs) (whole changes later triples b l) in
-    omega (arith, e, length-append (map Add triples) later, adds-length triples, few)
-
-pub stats-fit : (options : Options) (colours : List ColourOf) (choice : ChoiceOf) (changes later : List Change) (triples : List RdfTriple) (s : StoreOf) (stats : StatsOf) → choice ≡ choice_of options colours
-    → IsLayoutFor choice (terms_of triples) (bulk_items triples) (layout_of s) → triples ≡ map named (bulk changes) → later ≡ later_changes changes
-    → s ≡ fold changed_in (bulk_store (layout_of s) triples) later → SameBag (stored_triples s) (present (map Add triples ++ later)) → AreStats (layout_of s) (tables_of s) (stored_triples s) stats
-    → AreCounted options colours changes stats
-stats-fit options colours choice changes later triples s stats e h b l placed same are = record {
+pub stats-fit : (options : Options) (colours : List ColourOf) (changes : List Change) (s : StoreOf) (stats : StatsOf) (text : List ℕ) → IsRunStore options colours changes s
+    → AreStats (layout_of s) (tables_of s) (stored_triples s) stats → text ≡ stats_text stats → IsCounted options colours changes text
+stats-fit options colours changes s stats text run are written = record {
   layout = layout_of s;
-  chosen = subst (λ (ts : List RdfTriple). IsBulkLayout options colours ts (layout_of s)) b (subst (λ (c : ChoiceOf). IsLayoutFor c (terms_of triples) (bulk_items triples) (layout_of s)) e h);
-  counted = subst (λ (w : StoreOf). AreStats (layout_of s) (tables_of w) (present changes) stats) is
-      (same-stats (layout_of s) (tables_of s) (stored_triples s) (present changes) stats (subst (λ (cs : List Change). SameBag (stored_triples s) (present cs)) (whole changes later triples b l) same) are);
+  chosen = run.chosen;
+  told = record {
+    stats = stats;
+    counted = subst (λ (w : StoreOf). AreStats (layout_of s) (tables_of w) (present changes) stats) run.placed
+        (same-stats (layout_of s) (tables_of s) (stored_triples s) (present changes) stats run.triples are);
+    written = written;
+  };
 }
-  where
-    is : s ≡ placed_store (layout_of s) changes
-    is =
-        placed ∙ ap (λ (ts : List RdfTriple). fold changed_in (bulk_store (layout_of s) ts) later) b
-        ∙ ap (λ (cs : List Change). fold changed_in (bulk_store (layout_of s) (map named (bulk changes))) cs) l
-
--- ---- what options choose
-
-known-is : (side : SideName) (lines : List ColourLine) → map known_of (pairs_on side lines) ≡ known_on side (map colour_of lines)
-known-is side [] = refl
-known-is side (line ∷ lines) = by (same_side side line.side) (known-is side lines)
-  where
-    by : (b : Bool) → map known_of (pairs_on side lines) ≡ known_on side (map colour_of lines)
-        → map known_of (if b then pair_of line ∷ pairs_on side lines else pairs_on side lines) ≡ (if b then (line.iri, line.column) ∷ known_on side (map colour_of lines) else known_on side (map colour_of lines))
-    by true ih = ap (λ (l : List (List ℕ × ℕ)). (line.iri, line.column) ∷ l) ih
-    by false ih = ih
-
-pub choice-is : (options : Options) (lines : Vec ColourLine) → choice_made options.columns options.reverse options.hashes (way_for options.layout lines) ≡ choice_of options (map colour_of lines.items)
-choice-is options lines = by options.layout
-  where
-    by : (l : Layout)
-        → choice_made options.columns options.reverse options.hashes (way_for l lines)
-        ≡ record {
-          direct = record { count = options.columns; hashes = options.hashes; known = known_by l Direct (map colour_of lines.items) };
-          reverse = record { count = options.reverse; hashes = options.hashes; known = known_by l Reverse (map colour_of lines.items) };
-          greedy = is_coloured l;
-        }
-    by Colour = refl
-    by Hash = refl
-    by (File name) = λ i. record {
-      direct = record { count = options.columns; hashes = options.hashes; known = known-is Direct lines.items i };
-      reverse = record { count = options.reverse; hashes = options.hashes; known = known-is Reverse lines.items i };
-      greedy = false;
-    }
-
--- options in range and lines that fit them are not refused
-pub not-refused : (options : Options) (lines : Vec ColourLine) → AreInRange options → AreFit options.columns options.reverse (map colour_of lines.items) → FitColoursAreTaken → OtherWaysAreTaken
-    → refusal_chosen options.columns options.reverse options.hashes (way_for options.layout lines) ≡ None
-not-refused options lines r fit given others = by options.layout
-  where
-    counts : AreCounts options.columns options.reverse options.hashes
-    counts = record {
-      some_direct = r.columns.0;
-      few_direct = r.columns.1;
-      some_reverse = r.reverse.0;
-      few_reverse = r.reverse.1;
-      some_hash = r.hashes.0;
-      few_hashes = r.hashes.1;
-    }
-
-    by : (l : Layout) → refusal_chosen options.columns options.reverse options.hashes (way_for l lines) ≡ None
-    by Colour = (others options.columns options.reverse options.hashes counts).1
-    by Hash = (others options.columns options.reverse options.hashes counts).0
-    by (File name) = given options.columns options.reverse options.hashes lines counts fit

@@ -1,4 +1,1 @@
-pub mod Bulk
-pub mod Making
-pub mod Cuts
 pub mod Fits

@@ -1,4 +1,0 @@
-pub mod Limited
-pub mod Cutting
-pub mod Counted
-pub mod Refused

@@ -1,11 +1,6 @@
-//! The statistics of the tables that a layout gives for changes, and their text.
+//! The text of the statistics of a run.
 #![tactic(auto)]
 
-mod changing;
-mod choosing;
-mod cut;
-mod placing;
-mod refusal;
 mod text;
 mod work;
 

@@ -1,4 +1,4 @@
-//! What is counted of the tables of changes.
+//! The text of what is counted of the tables of changes.
 
 ghost use Rattle.std.specs.Prelude.{◌≡◌, ◌<◌, ◌^◌, IfOk, OnOk, IfErr, None, length, map};
 ghost use Rattle.run_meaning.specs.Limits.{passed_limit};
@@ -7,44 +7,21 @@ ghost use Rattle.colouring_file_meaning.specs.ColourLines.{AreFit};
 ghost use Rattle.colouring_file.specs.Colours.{colour_of};
 ghost use Rattle.layout_placed_meaning.specs.Chosen.{IsCounted};
 ghost use Rattle.rdf_triples.specs.Refusals.{Refuses};
-ghost use Rattle.run_stats.specs.Counted.{AreCounted};
 
-use crate::choosing::choice_of;
-use crate::cut::cut_at_deletion;
-use crate::placing::place;
 use crate::text::text_of;
 use colouring_file::ColourLine;
 use line_change_meaning::Change;
-use rdf_layout::Stats;
 use rdf_triples::LoadRefusal;
 use run_meaning::Options;
+use run_store::store_of;
 use std::alloc::Global;
+use std::thread::Threads;
 
-// What is counted of the tables that hold the triples present after the changes: the bulk is loaded at once
-// and the later changes are made one by one, under the layout that the options ask for; the lines are those of
-// the colouring file, if they name one. The terms are those that additions needed. It is refused exactly where
-// a change passes a limit, by the first that does.
-fn stats_of(
-    alloc: Global,
-    options: &Options,
-    lines: Vec<ColourLine>,
-    changes: Vec<Change>,
-) -> Result<Stats, LoadRefusal>
-    requires in_range { AreInRange options.now }
-    requires fit { AreFit options.now.columns options.now.reverse (map colour_of lines.items) }
-    requires few { length changes.items < 2 ^ 62 }
-    ensures ok { IfOk result (λ stats. AreCounted options.now (map colour_of lines.items) changes.items stats) }
-    ensures within { OnOk result (passed_limit changes.items ≡ None) }
-    ensures passed { IfErr result (λ e. Refuses e (passed_limit changes.items)) }
-{
-    let choice = choice_of(alloc, options, lines)?;
-    let cut = cut_at_deletion(alloc, changes)?;
-    let store = place(alloc, &choice, options.pieces, &cut.bulk, &cut.later)?;
-    Ok(store.stats())
-}
-
-/// The text of these statistics, of four lines.
-pub fn stats_text(
+/// The four lines of what is counted of the tables that hold the triples present after the changes, under the
+/// layout that the options ask for; the lines are those of the colouring file, if they name one. The terms are
+/// those that additions needed. It is refused exactly where a change passes a limit, by the first that does.
+pub fn stats_text<R: Threads + Sync>(
+    rt: &R,
     alloc: Global,
     options: &Options,
     lines: Vec<ColourLine>,
@@ -57,6 +34,6 @@ pub fn stats_text(
     ensures within { OnOk result (passed_limit changes.items ≡ None) }
     ensures passed { IfErr result (λ e. Refuses e (passed_limit changes.items)) }
 {
-    let stats = stats_of(alloc, options, lines, changes)?;
-    Ok(text_of(alloc, &stats)?)
+    let store = store_of(rt, alloc, options, lines, changes)?;
+    Ok(text_of(alloc, &store.stats())?)
 }

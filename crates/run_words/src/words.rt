@@ -1,14 +1,18 @@
 //! The words of the command line.
 
 ghost use Rattle.std.specs.Prelude.{◌≡◌, ◌≤◌, true, IfOk, length, map, option_map, string_bytes};
-ghost use Rattle.std.specs.List.{list_all};
+ghost use Rattle.std.specs.List.{list_all, list_any};
 ghost use Rattle.rdf_meaning.specs.Characters.{is_digit};
 ghost use Rattle.rdf_meaning.specs.Digits.{number_of_digits};
-ghost use Rattle.run_meaning.specs.Words.{is_option, is_plain_number, number_in, once, layout_word, file_word, with_number, with_layout, with_option, split_options, options_of, only_pieces, two_names, one_name, two_numbers, over_two_files, exec_from, command_from, command_of, none_given};
+ghost use Rattle.run_meaning.specs.Spelling.{IsCommandOf};
+ghost use Rattle.run_meaning.specs.Words.{is_option, is_plain_number, number_in, once, layout_word, file_word, with_number, with_layout, with_option, split_options, options_of, only_pieces, data_names, data_and_query, one_name, two_numbers, over_query, exec_from, command_from, command_of, none_given};
 
 use rdf_meaning::{Text, text_of};
 use rdf_spelling::are_digits;
-use run_meaning::{Command, Layout, Options};
+use run_meaning::{
+    Command, DataNames, Layout, MOST_COLUMNS, MOST_DATA_FILES, MOST_DRILL, MOST_HASHES,
+    MOST_PIECES, Options,
+};
 use std::alloc::{AllocError, Global};
 use std::marker::Model;
 
@@ -161,13 +165,13 @@ fn with_number(mut given: GivenOptions, name: &str, value: &str) -> Option<Given
     ensures { result ≡ with_number given name.now value.now }
 {
     if name == "--columns" {
-        given.columns = Some(once(given.columns, number_in(1, 32, value))?);
+        given.columns = Some(once(given.columns, number_in(1, MOST_COLUMNS, value))?);
     } else if name == "--reverse" {
-        given.reverse = Some(once(given.reverse, number_in(1, 32, value))?);
+        given.reverse = Some(once(given.reverse, number_in(1, MOST_COLUMNS, value))?);
     } else if name == "--hashes" {
-        given.hashes = Some(once(given.hashes, number_in(1, 4, value))?);
+        given.hashes = Some(once(given.hashes, number_in(1, MOST_HASHES, value))?);
     } else if name == "--pieces" {
-        given.pieces = Some(once(given.pieces, number_in(1, 64, value))?);
+        given.pieces = Some(once(given.pieces, number_in(1, MOST_PIECES, value))?);
     } else {
         return None;
     }
@@ -217,20 +221,53 @@ fn split_options(
     Ok(Some((given, rest)))
 }
 
-// The two names that follow the options.
-fn two_names(alloc: Global, rest: &[String]) -> Result<Option<(Text, Text)>, AllocError>
-    ensures { IfOk result (λ names. names ≡ two_names (map string_bytes rest.now)) }
+fn has_option(words: &[String]) -> bool
+    ensures { result ≡ list_any is_option (map string_bytes words.now) }
 {
-    let [data, query] = rest else {
-        return Ok(None);
-    };
-    if is_option(data.as_str()) || is_option(query.as_str()) {
+    let mut rest = words;
+    'words: while let Some((word, behind)) = rest.split_first() {
+        if is_option(word.as_str()) {
+            return true;
+        }
+        rest = behind;
+    }
+    false
+}
+
+fn texts_of(alloc: Global, words: &[String]) -> Result<Vec<Text>, AllocError>
+    ensures { IfOk result (λ texts. texts.items ≡ map string_bytes words.now) }
+{
+    let mut texts = Vec::with_capacity(alloc, words.len())?;
+    for word in words {
+        texts.push(text_of(alloc, word.as_str())?)?;
+    }
+    Ok(texts)
+}
+
+// The data files, where they are 1 to 16 names.
+fn data_names(alloc: Global, names: &[String]) -> Result<Option<DataNames>, AllocError>
+    ensures { IfOk result (λ files. files ≡ data_names (map string_bytes names.now)) }
+{
+    if has_option(names) || names.is_empty() || names.len() > MOST_DATA_FILES {
         return Ok(None);
     }
-    Ok(Some((
-        text_of(alloc, data.as_str())?,
-        text_of(alloc, query.as_str())?,
-    )))
+    Ok(Some(DataNames::new(texts_of(alloc, names)?)))
+}
+
+// The data files, and the query file behind them.
+fn data_and_query(alloc: Global, names: &[String]) -> Result<Option<(DataNames, Text)>, AllocError>
+    ensures { IfOk result (λ files. files ≡ data_and_query (map string_bytes names.now)) }
+{
+    let Some((query, files)) = names.split_last() else {
+        return Ok(None);
+    };
+    if is_option(query.as_str()) {
+        return Ok(None);
+    }
+    let Some(data) = data_names(alloc, files)? else {
+        return Ok(None);
+    };
+    Ok(Some((data, text_of(alloc, query.as_str())?)))
 }
 
 // The one name that follows the options.
@@ -254,16 +291,16 @@ fn two_numbers(rest: &[String]) -> Option<(u32, u32)>
         return None;
     };
     Some((
-        number_in(1, 100_000, count.as_str())?,
+        number_in(1, MOST_DRILL, count.as_str())?,
         number_in(0, u32::MAX, seed.as_str())?,
     ))
 }
 
-// The command of this name over a data file and a query file.
-fn over_two_files(name: &str, options: Options, names: (Text, Text)) -> Option<Command>
-    ensures { result ≡ over_two_files name.now options names.0 names.1 }
+// The command of this name over data files and a query file.
+fn over_query(name: &str, options: Options, files: (DataNames, Text)) -> Option<Command>
+    ensures { result ≡ over_query name.now options files.0 files.1 }
 {
-    let (data, query) = names;
+    let (data, query) = files;
     if name == "query" {
         Some(Command::Query {
             options,
@@ -296,7 +333,7 @@ fn command_from(
     ensures { IfOk result (λ command. command ≡ command_from name.now given (map string_bytes names.now)) }
 {
     if name == "stats" {
-        let Some(data) = one_name(alloc, names)? else {
+        let Some(data) = data_names(alloc, names)? else {
             return Ok(None);
         };
         let options = given.into_options();
@@ -316,10 +353,10 @@ fn command_from(
             seed,
         }));
     }
-    let Some(files) = two_names(alloc, names)? else {
+    let Some(files) = data_and_query(alloc, names)? else {
         return Ok(None);
     };
-    Ok(over_two_files(name, given.into_options(), files))
+    Ok(over_query(name, given.into_options(), files))
 }
 
 fn exec_from(
@@ -339,8 +376,7 @@ fn exec_from(
     Ok(Some(Command::Exec { pieces, file }))
 }
 
-/// The command that the words are, where they are one.
-pub fn command_of(alloc: Global, words: &[String]) -> Result<Option<Command>, AllocError>
+fn read_words(alloc: Global, words: &[String]) -> Result<Option<Command>, AllocError>
     ensures { IfOk result (λ command. command ≡ command_of (map string_bytes words.now)) }
 {
     let Some((name, rest)) = words.split_first() else {
@@ -350,4 +386,12 @@ pub fn command_of(alloc: Global, words: &[String]) -> Result<Option<Command>, Al
         return Ok(None);
     };
     command_from(alloc, name.as_str(), given, names)
+}
+
+/// The command that the words spell, where they spell one. Words spell one command at most.
+pub fn command_of(alloc: Global, words: &[String]) -> Result<Option<Command>, AllocError>
+    ensures read { IfOk result (λ command. command ≡ command_of (map string_bytes words.now)) }
+    ensures spelled { IfOk result (IsCommandOf (map string_bytes words.now)) }
+{
+    read_words(alloc, words)
 }

@@ -1,0 +1,5 @@
+pub mod Intake
+pub mod Files
+pub mod Refusal
+pub mod Taken
+pub mod Job

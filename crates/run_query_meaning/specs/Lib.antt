@@ -1,0 +1,2 @@
+pub mod QueryFile
+pub mod Answering

@@ -1,0 +1,2 @@
+//! What a query over data files asks for, and the text of its answer.
+#![tactic(auto)]

@@ -1,0 +1,2 @@
+//! What counting the tables of data files asks for, and its text.
+#![tactic(auto)]

@@ -1,0 +1,4 @@
+pub mod Bulk
+pub mod Making
+pub mod Cuts
+pub mod Fits

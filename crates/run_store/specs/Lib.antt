@@ -1,0 +1,4 @@
+pub mod Limited
+pub mod Cutting
+pub mod Ways
+pub mod Refused

@@ -1,5 +1,0 @@
-//! Tests of binding.
-#![tactic(auto)]
-
-#[cfg(test)]
-mod faults;

@@ -1,5 +1,0 @@
-//! Tests of tables as text.
-#![tactic(auto)]
-
-#[cfg(test)]
-mod texts;

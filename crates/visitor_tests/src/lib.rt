@@ -1,5 +1,0 @@
-//! Tests of visitors on worked scripts.
-#![tactic(auto)]
-
-#[cfg(test)]
-mod walks;

@@ -7,7 +7,7 @@ mod table_set;
 mod view;
 mod writing;
 
-pub use mem_tables::MemTables;
+pub use mem_tables::{MemTables, share_mem_tables};
 pub use reading::{is_name, read_int};
 pub use table_meaning::{Cell, Column, Kind, Row, RowList, Schema};
 pub use table_set::TableSet;

@@ -1,5 +1,5 @@
--- The tables that are meant are tables under distinct names.
-use Rattle.std.proofs.Common.{◌≡◌, Bool, true, false, cond, List, [], ◌∷◌, map, refl, ap}
+-- The tables that are meant are tables under distinct names, and can be written.
+use Rattle.std.proofs.Common.{◌≡◌, ℕ, Bool, true, false, cond, List, [], ◌∷◌, map, IsTrue, refl, ap, ◌∙◌}
 use Rattle.std.specs.Prelude.{◌&&◌}
 use Rattle.std.specs.List.{list_all}
 use Rattle.table_meaning.specs.declared.kind.Kind.{Kind}
@@ -7,10 +7,13 @@ use Rattle.table_meaning.specs.declared.kind.Kind.TheVariants as kinds
 use Rattle.table_meaning.specs.declared.cell.Cell.{Cell}
 use Rattle.table_meaning.specs.declared.cell.Cell.TheVariants.{Null, Int, Text, Truth}
 use Rattle.table_meaning.specs.declared.schema.Column.{Column}
+use Rattle.std.proofs.lemmas.Bool.{and_parts}
+use Rattle.table_meaning.specs.Names.{is_name}
 use Rattle.table_meaning.specs.Schemas.{is_schema, are_distinct}
 use Rattle.table_meaning.specs.Tables.{NamedTable, has_kind, is_row, are_rows, is_table, table_name, is_table_set}
 use Rattle.table_text_meaning.specs.declared.version.Version.{Version}
 use Rattle.table_text_meaning.specs.declared.version.Version.TheVariants.{First, Second}
+use Rattle.table_text_meaning.specs.TableText.{is_plain_column, is_plain_table, is_held_table, is_spelled_set, TablesRead}
 use Rattle.table_text_meaning.specs.Versions.{is_term_table, is_blank_class, of_first_file, with_label, with_labels, tables_meant}
 
 label_fits : (kind : Kind) (cell : Cell) → has_kind kind (of_first_file cell) ≡ has_kind kind cell
@@ -64,3 +67,28 @@ names_fit (table ∷ tables) = λ i. (table_fits table).1 i ∷ names_fit tables
 pub meant_set : (version : Version) (tables : List NamedTable) → is_table_set (tables_meant version tables) ≡ is_table_set tables
 meant_set First tables = λ i. are_distinct (names_fit tables i) && tables_fit tables i
 meant_set Second tables = refl
+
+plain_fits : (table : NamedTable) → is_plain_table (with_labels table) ≡ is_plain_table table
+plain_fits table = by (is_term_table table)
+  where
+    labelled : NamedTable
+    labelled = record { name = table.name; schema = table.schema; rows = map with_label table.rows }
+
+    by : (b : Bool) → is_plain_table (cond b labelled table) ≡ is_plain_table table
+    by true = refl
+    by false = refl
+
+plains_fit : (tables : List NamedTable) → list_all is_plain_table (map with_labels tables) ≡ list_all is_plain_table tables
+plains_fit [] = refl
+plains_fit (table ∷ tables) = λ i. plain_fits table i && plains_fit tables i
+
+meant_plain : (version : Version) (tables : List NamedTable) → list_all is_plain_table (tables_meant version tables) ≡ list_all is_plain_table tables
+meant_plain First tables = plains_fit tables
+meant_plain Second tables = refl
+
+-- tables that are read can be written again
+pub read_plain : (bytes : List ℕ) (tables : List NamedTable) (at : ℕ) → TablesRead bytes tables at → IsTrue (list_all is_plain_table tables)
+read_plain bytes tables at r =
+    let parts = and_parts _ _ r.spelled in
+    let plain = and_parts _ _ parts.1 in
+    ap (list_all is_plain_table) r.meant ∙ (meant_plain r.version r.written ∙ plain.0)

@@ -14,7 +14,7 @@ mod table;
 mod tables;
 mod writer;
 
-pub use laws::texts_have_one_outcome;
+pub use laws::{tables_read_are_plain, texts_have_one_outcome};
 pub use refusal::TableRefusal;
 pub use tables::{ReadTables, read_tables};
 pub use writer::write_tables;

@@ -14,6 +14,9 @@ use Rattle.std.specs.Cmp.Lexicographic.{pointwise}
 use Rattle.indexmap.specs.IndexSet.{insert_key}
 use Rattle.pred_colour_meaning.proofs.Steps.{same_number}
 use Rattle.pred_colour.proofs.Joins.{any-map}
+use Rattle.layout_meaning.specs.Side.{Item}
+use Rattle.shredder.specs.declared.bulk.Placed.{Placed}
+use Rattle.shredder.specs.Items.{item_of}
 use Rattle.layout_columns.specs.Entities.{has_both}
 use Rattle.layout_columns.proofs.ByEntity.{and-parts}
 
@@ -124,3 +127,16 @@ items-distinct (x ∷ xs) h = (apart xs h.0, items-distinct xs h.1)
     apart : (ys : List (Vec ℕ)) → AllByRecursion (λ (y : Vec ℕ). pointwise nat_eq x.items y.items ≡ false) ys → AllByRecursion (λ (y : List ℕ). pointwise nat_eq x.items y ≡ false) (map vec_items ys)
     apart [] a = tt
     apart (y ∷ ys) a = (a.0, apart ys a.1)
+
+-- a number that is among none of others is apart from each
+pub first-apart : (x : ℕ) (ks : List ℕ) → list_any (nat_eq x) ks ≡ false → AllByRecursion (λ y. nat_eq x y ≡ false) ks
+first-apart x [] h = tt
+first-apart x (k ∷ ks) h = by (first-apart x ks) (nat_eq x k) refl h
+  where
+    by : (list_any (nat_eq x) ks ≡ false → AllByRecursion (λ y. nat_eq x y ≡ false) ks) → (b : Bool) → nat_eq x k ≡ b → (b || list_any (nat_eq x) ks) ≡ false → (nat_eq x k ≡ false) × AllByRecursion (λ y. nat_eq x y ≡ false) ks
+    by ih true e h = cc
+    by ih false e h = (e, ih h)
+
+-- a test of items that change places
+pub any-moved : (t : Item → Bool) (xs ys : List Placed) → IsPermutation xs ys → list_any t (map item_of ys) ≡ list_any t (map item_of xs)
+any-moved t xs ys same = any-map t item_of ys ∙ sym (list_any-IsPermutation (λ (p : Placed). t (item_of p)) xs ys same) ∙ sym (any-map t item_of xs)

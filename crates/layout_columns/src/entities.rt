@@ -1,6 +1,6 @@
 //! The predicates of each entity.
 
-ghost use Rattle.std.specs.Prelude.{◌≡◌, ◌&&◌, ◌||◌, [], ℕ, nat_eq, map, IfOk, OnOk};
+ghost use Rattle.std.specs.Prelude.{◌≡◌, ◌&&◌, ◌||◌, ◌∷◌, [], ℕ, nat_eq, map, IsPermutation, IfOk, OnOk};
 ghost use Rattle.std.specs.List.{list_any, IsDistinct};
 ghost use Rattle.std.specs.List.Sorted.{IsStrictlySortedBy};
 ghost use Rattle.std.specs.Ordering.{nat_cmp};
@@ -15,44 +15,56 @@ use std::alloc::{AllocError, Global};
 use std::collections::BTreeMap;
 use std::marker::Model;
 
-/// Distinct predicates, which contracts see as a list.
+/// Distinct predicates, one at least, which contracts see as a list. Where there is one alone, as most objects have,
+/// it takes no memory of its own.
 #[derive(Drop)]
 pub(crate) struct Preds {
-    preds: IndexSet<u32>,
+    first: u32,
+    others: IndexSet<u32>,
 }
 
 impl Model for Preds {
-    ghost use Rattle.std.specs.Prelude.{List, ℕ};
+    ghost use Rattle.std.specs.Prelude.{◌≡◌, ◌∷◌, List, ℕ, nat_eq, false};
+    ghost use Rattle.std.specs.List.{list_any};
     ghost use Rattle.std.specs.Coded.{coded_list, coded_ℕ};
 
     ghost Value = { List ℕ };
 
     ghost coded = { coded_list coded_ℕ };
 
-    ghost view = { λ p. p.preds.keys };
+    ghost view = { λ p. p.first ∷ p.others.keys };
+
+    ghost invariant = { λ p. list_any (nat_eq p.first) p.others.keys ≡ false };
 }
 
 impl Preds {
-    fn new(alloc: Global) -> Preds
-        ensures { result ≡ [] }
+    fn one(alloc: Global, pred: u32) -> Preds
+        ensures { result ≡ pred ∷ [] }
     {
         Preds {
-            preds: IndexSet::new(alloc),
+            first: pred,
+            others: IndexSet::new(alloc),
         }
     }
 
-    pub(crate) fn as_slice(&self) -> &[u32]
-        ensures value { result.now ≡ self.now }
-        ensures once { IsDistinct nat_eq self.now }
+    /// The predicates in the order in which they were noted.
+    pub(crate) fn listed(&self, alloc: Global) -> Result<Vec<u32>, AllocError>
+        ensures value { IfOk result (λ list. list.items ≡ self.now) }
+        ensures once { IfOk result (λ list. IsDistinct nat_eq list.items) }
     {
-        self.preds.as_slice()
+        let mut list = Vec::with_capacity(alloc, 1 + self.others.len())?;
+        list.push(self.first)?;
+        list.extend_from_slice(self.others.as_slice())?;
+        Ok(list)
     }
 
     /// Notes a predicate, unless it is there.
     fn note(&mut self, pred: u32) -> Result<(), AllocError>
         ensures { OnOk result ((q : ℕ) → has q self.new ≡ (has q self.old || nat_eq q pred)) }
     {
-        self.preds.insert(pred)?;
+        if pred != self.first {
+            self.others.insert(pred)?;
+        }
         Ok(())
     }
 }
@@ -69,9 +81,7 @@ fn note(
     if let Some(preds) = entities.get_mut(&entity) {
         return preds.note(pred);
     }
-    let mut preds = Preds::new(alloc);
-    preds.note(pred)?;
-    entities.insert(entity, preds)?;
+    entities.insert(entity, Preds::one(alloc, pred))?;
     Ok(())
 }
 
@@ -98,6 +108,15 @@ fn note_all(
     Ok(())
 }
 
+/// The items by rising entity: each entity is then found beside the one before.
+fn by_entity(alloc: Global, placed: &[Placed]) -> Result<Vec<Placed>, AllocError>
+    ensures { IfOk result (λ items. IsPermutation placed.now items.items) }
+{
+    let mut items = Vec::from_slice(alloc, placed)?;
+    items.sort_by_key(|item| item.entity)?;
+    Ok(items)
+}
+
 /// The entities of items, each with its predicates.
 pub(crate) fn entities_in(
     alloc: Global,
@@ -106,8 +125,9 @@ pub(crate) fn entities_in(
     ensures preds { IfOk result (λ entities. (e p : ℕ) → has p (neighbours_of entities.entries e) ≡ list_any (is_pair e p) (map item_of placed.now)) }
     ensures rising { IfOk result (λ entities. IsStrictlySortedBy nat_cmp (keys_of entities.entries)) }
 {
+    let items = by_entity(alloc, placed)?;
     let mut entities = BTreeMap::new(alloc);
-    note_all(&mut entities, alloc, placed)?;
+    note_all(&mut entities, alloc, items.as_slice())?;
     // That the entities rise is told by a call.
     let _count = entities.len();
     Ok(entities)

@@ -60,12 +60,11 @@ impl PredLists {
 }
 
 /// Distinct predicates by rising id, so that equal sets are equal lists.
-fn rising(alloc: Global, preds: &[u32]) -> Result<Vec<u32>, AllocError>
-    requires { IsDistinct nat_eq preds.now }
+fn rising(alloc: Global, preds: &Preds) -> Result<Vec<u32>, AllocError>
     ensures permutation { IfOk result (λ rising. IsPermutation preds.now rising.items) }
     ensures rising { IfOk result (λ rising. IsStrictlySortedBy nat_cmp rising.items) }
 {
-    let mut rising = Vec::from_slice(alloc, preds)?;
+    let mut rising = preds.listed(alloc)?;
     rising.sort_unstable();
     Ok(rising)
 }
@@ -77,7 +76,7 @@ fn rising_sets(alloc: Global, entities: &BTreeMap<u32, Preds>) -> Result<PredLis
 {
     let mut sets = PredLists::new(alloc);
     for (_entity, preds) in entities {
-        let set = rising(alloc, preds.as_slice())?;
+        let set = rising(alloc, preds)?;
         sets.note(set)?;
     }
     Ok(sets)

@@ -100,13 +100,14 @@ impl Columns {
         })
     }
 
-    /// How many columns there are.
+    /// How many columns there are. Each IRI has candidates, and all of them are among these columns.
     pub fn count(&self) -> u32
         ensures value { result ≡ self.now.count }
         ensures low { 1 ≤ result }
         ensures high { result ≤ 32 }
         ensures some { (iri : List ℕ) → 0 < length (candidates_of self.now iri) }
         ensures first { (iri : List ℕ) → first_of (candidates_of self.now iri) < self.now.count }
+        ensures within { (iri : List ℕ) → All (λ c. c < self.now.count) (candidates_of self.now iri) }
     {
         self.count
     }
@@ -195,4 +196,12 @@ fn copied(alloc: Global, known: &IndexMap<Text, u32>) -> Result<IndexMap<Text, u
         add_new(&mut copy, alloc, iri, *column)?;
     }
     Ok(copy)
+}
+
+// Takes what pieces may read at the same time.
+fn share<T: Sync>(_value: &T) {}
+
+/// The columns may be read by several threads at the same time.
+pub fn share_columns(columns: &Columns) {
+    share(columns)
 }

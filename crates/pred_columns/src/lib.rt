@@ -5,5 +5,5 @@ mod columns;
 mod facts;
 mod hashes;
 
-pub use columns::{ColourPair, ColumnRefusal, Columns};
+pub use columns::{ColourPair, ColumnRefusal, Columns, share_columns};
 pub use facts::{ConstCount, Counts, IdPair, LayoutFacts, QueryIds, Spilled};

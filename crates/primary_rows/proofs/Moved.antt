@@ -1,22 +1,23 @@
 -- Pairs, rows and counts that are moved.
-use Rattle.std.proofs.Common.{◌≡◌, ◌<◌, ◌≤◌, ◌+◌, ◌==◌, ℕ, zero, suc, Bool, true, false, if◌then◌else◌, List, [], ◌∷◌, ◌++◌, length, get_or, Option, Some, None, IsSome, IsTrue, Less, refl, sym, ap, ◌∙◌, arith, subst}
-use Rattle.std.specs.List.{list_all, AllByRecursion}
+use Rattle.std.proofs.Common.{◌≡◌, ◌<◌, ◌≤◌, ◌+◌, ◌==◌, ℕ, zero, suc, Bool, true, false, if◌then◌else◌, List, [], ◌∷◌, ◌++◌, length, take, drop, set, get_or, Option, Some, None, IsSome, IsTrue, Less, refl, sym, ap, ◌∙◌, arith, subst}
+use Rattle.std.specs.List.{list_all, flat_map, AllByRecursion}
 use Rattle.std.specs.List.Sorted.{IsStrictlySortedBy}
 use Rattle.std.specs.Ordering.{nat_cmp}
 use Rattle.std.specs.BTreeMap.{is_at, insert_entry}
 use Rattle.std.specs.Map.{lookup, keys_of}
 use Rattle.std.specs.Cmp.{first_so, second_so}
-use Rattle.std.proofs.lemmas.List.{get_or_default}
+use Rattle.std.proofs.lemmas.List.{get_or_default, drop-set-lt, take_all}
+use Rattle.std.proofs.Math.Seq.{take-suc-set}
 use Rattle.bags.specs.Bag.{total}
 use Rattle.layout_meaning.specs.Side.{Rows, Entities, ValueLists, or_empty, elements_of}
 use Rattle.layout_meaning.specs.Sound.{IsSoundList, has_pred}
 use Rattle.layout_meaning.specs.Rows.{later, row_total}
 use Rattle.layout_meaning.proofs.Sums.{total-append}
 use Rattle.layout_meaning.specs.Lists.{ListsOf}
-use Rattle.layout_bulk_meaning.specs.Appended.{lists_in, given_row, given_rows, lists_in_rows, given_entity, given_entities, named_in_rows, with_lists, IsAbove}
+use Rattle.layout_bulk_meaning.specs.Appended.{in_turn, lists_in, given_row, given_rows, lists_in_rows, given_entity, given_entities, named_in_rows, with_lists, IsAbove}
 use Rattle.layout_bulk_meaning.proofs.Turns.{turn-same, turn-length}
 use Rattle.layout_bulk_meaning.proofs.Sides.{has-rows, count-rows}
-use Rattle.layout_bulk_meaning.proofs.Going.{Going, going-next, entry-last, above-first, above-next, sorted-next}
+use Rattle.layout_bulk_meaning.proofs.Going.{Going, going-good, going-next, going-made, going-lists, left-next, left-none, entry-last, above-first, above-next, sorted-next}
 use Rattle.primary_rows.specs.declared.cells.Pair as cells
 use Rattle.primary_rows.specs.Cells.{fits}
 use Rattle.primary_rows.specs.Counted.{count_in, ArePositive, spill_total, AreCounted}
@@ -108,6 +109,32 @@ counted-both first others n a b counts more both x y sum = record {
   rows = omega (arith, total-append (λ (en : ℕ × Rows). length en.1) first (given_entities n others), rows-same n others, x.rows, y.rows);
   spilled = λ p. omega (arith, sum p, total-append (λ (en : ℕ × Rows). total (total (has_pred p)) (later en.1)) first (given_entities n others), spills-same p n others, x.spilled p, y.spilled p);
 }
+
+-- ---- things that change in their places
+
+-- one place on
+pub place-next : {X : Type 0} (c : X → ℕ) (f : ℕ → X → X) (L : X → List (List ℕ)) (all xs new : List X) (at : ℕ) (x y : X) (start to after : ListsOf) → ((x : X) → length (L x) ≡ c x)
+    → Going c f L [] (take at xs) all (drop at xs) start to → at < length xs → x ≡ get_or xs at x → y ≡ f to.next x → after ≡ with_lists to (L x) → new ≡ set xs at y
+    → Going c f L [] (take (at + 1) new) all (drop (at + 1) new) start after
+place-next {X} c f L all xs new at x y start to after count g within is made given put =
+    let e : drop at xs ≡ x ∷ drop (at + 1) xs = left-next xs at x within is in
+    let n : at + 1 ≡ suc at = omega arith in
+    let front : take (at + 1) new ≡ take at xs ++ y ∷ [] = ap (take (at + 1)) put ∙ ap (λ (m : ℕ). take m (set xs at y)) n ∙ take-suc-set xs at y within in
+    let back : drop (at + 1) new ≡ drop (at + 1) xs = ap (drop (at + 1)) put ∙ drop-set-lt (at + 1) xs at y (omega arith) in
+    subst (λ (r : List X). Going c f L [] (take (at + 1) new) all r start after) (sym back)
+    (going-next c f L [] (take at xs) (take (at + 1) new) all (drop at xs) (drop (at + 1) xs) x y start to after count g e made given front)
+
+pub place-good : {X : Type 0} (c : X → ℕ) (f : ℕ → X → X) (L : X → List (List ℕ)) (all xs : List X) (at : ℕ) (x : X) (start to : ListsOf) → Going c f L [] (take at xs) all (drop at xs) start to
+    → at < length xs → x ≡ get_or xs at x → AllByRecursion IsSoundList (L x)
+place-good c f L all xs at x start to g within is = going-good c f L [] (take at xs) all (drop at xs) (drop (at + 1) xs) x start to g (left-next xs at x within is)
+
+pub places-made : {X : Type 0} (c : X → ℕ) (f : ℕ → X → X) (L : X → List (List ℕ)) (all xs : List X) (at : ℕ) (start to : ListsOf) → Going c f L [] (take at xs) all (drop at xs) start to → length xs ≤ at
+    → xs ≡ in_turn c f start.next all
+places-made c f L all xs at start to g end = sym (take_all at xs end) ∙ going-made c f L [] (take at xs) all (drop at xs) start to g (left-none xs at end)
+
+pub places-lists : {X : Type 0} (c : X → ℕ) (f : ℕ → X → X) (L : X → List (List ℕ)) (all xs : List X) (at : ℕ) (start to : ListsOf) → Going c f L [] (take at xs) all (drop at xs) start to → length xs ≤ at
+    → to ≡ with_lists start (flat_map L all)
+places-lists c f L all xs at start to g end = going-lists c f L [] (take at xs) all (drop at xs) start to g (left-none xs at end)
 
 -- one more entity was moved
 pub entities-next : (first done new all rest more : Entities) (entity : ℕ) (rows moved : Rows) (start to after : ListsOf) (lists : ValueLists)

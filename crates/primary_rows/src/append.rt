@@ -1,4 +1,4 @@
-//! Rows of a later side behind those of a side, and their lists under its next ids.
+//! Rows of a later side, moved behind those of a side, and its lists under the next ids.
 
 ghost use Rattle.std.specs.Prelude.{◌≡◌, ◌<◌, ◌+◌, ◌++◌, ◌^◌, IfOk, OnOk, IsTrue};
 ghost use Rattle.std.specs.List.{flat_map, AllByRecursion};
@@ -68,53 +68,57 @@ fn moved_pair(alloc: Global, pair: Pair, from: &Lists, to: &mut Lists) -> Result
     Ok(filled(pair.pred, value))
 }
 
-fn moved_row(alloc: Global, row: &Row, from: &Lists, to: &mut Lists) -> Result<Row, AllocError>
-    requires { AllByRecursion IsSoundList (flat_map (named_by from.now.lists) row.now) }
-    ensures row { IfOk result (λ moved. moved ≡ given_row to.old.next row.now) }
-    ensures lists { OnOk result (to.new ≡ with_lists to.old (flat_map (named_by from.now.lists) row.now)) }
+/// Gives the lists of a row the next numbers.
+fn renumber_row(
+    alloc: Global,
+    row: &mut Row,
+    from: &Lists,
+    to: &mut Lists,
+) -> Result<(), AllocError>
+    requires { AllByRecursion IsSoundList (flat_map (named_by from.now.lists) row.old) }
+    ensures row { OnOk result (row.new ≡ given_row to.old.next row.old) }
+    ensures lists { OnOk result (to.new ≡ with_lists to.old (flat_map (named_by from.now.lists) row.old)) }
 {
-    let cells = row.pairs();
-    let mut pairs = Vec::with_capacity(alloc, cells.len())?;
-    for at in 0..cells.len() {
-        pairs.push(moved_pair(alloc, cells[at], from, to)?)?;
+    for at in 0..row.width() {
+        let moved = moved_pair(alloc, row.pair(at), from, to)?;
+        row.set(at, moved);
     }
-    Ok(Row::of(pairs))
+    Ok(())
 }
 
 fn moved_rows(
     alloc: Global,
-    rows: &EntityRows,
+    rows: EntityRows,
     from: &Lists,
     to: &mut Lists,
 ) -> Result<EntityRows, AllocError>
-    requires { AllByRecursion IsSoundList (named_in_rows from.now.lists rows.now) }
-    ensures rows { IfOk result (λ moved. moved ≡ given_rows to.old.next rows.now) }
-    ensures lists { OnOk result (to.new ≡ with_lists to.old (named_in_rows from.now.lists rows.now)) }
+    requires { AllByRecursion IsSoundList (named_in_rows from.now.lists rows) }
+    ensures rows { IfOk result (λ moved. moved ≡ given_rows to.old.next rows) }
+    ensures lists { OnOk result (to.new ≡ with_lists to.old (named_in_rows from.now.lists rows)) }
 {
-    let rows = rows.as_slice();
-    let mut moved = Vec::with_capacity(alloc, rows.len())?;
+    let mut rows = rows.into_rows();
     for at in 0..rows.len() {
-        moved.push(moved_row(alloc, &rows[at], from, to)?)?;
+        renumber_row(alloc, &mut rows[at], from, to)?;
     }
-    Ok(EntityRows::of(moved))
+    Ok(EntityRows::of(rows))
 }
 
-/// Puts later entities behind others.
+/// Moves later entities behind others.
 pub(crate) fn move_entities(
     entities: &mut BTreeMap<u32, EntityRows>,
     alloc: Global,
-    later: &BTreeMap<u32, EntityRows>,
+    later: BTreeMap<u32, EntityRows>,
     from: &Lists,
     to: &mut Lists,
 ) -> Result<(), AllocError>
-    requires above { IsAbove entities.old.entries later.now.entries }
-    requires good { AllByRecursion IsSoundList (named_lists from.now.lists later.now.entries) }
-    ensures entities { OnOk result (entities.new.entries ≡ entities.old.entries ++ given_entities to.old.next later.now.entries) }
-    ensures lists { OnOk result (to.new ≡ with_lists to.old (named_lists from.now.lists later.now.entries)) }
+    requires above { IsAbove entities.old.entries later.entries }
+    requires good { AllByRecursion IsSoundList (named_lists from.now.lists later.entries) }
+    ensures entities { OnOk result (entities.new.entries ≡ entities.old.entries ++ given_entities to.old.next later.entries) }
+    ensures lists { OnOk result (to.new ≡ with_lists to.old (named_lists from.now.lists later.entries)) }
 {
     for (entity, rows) in later {
         let moved = moved_rows(alloc, rows, from, to)?;
-        let Ok(_old) = entities.insert(*entity, moved) else {
+        let Ok(_old) = entities.insert(entity, moved) else {
             return Err(AllocError);
         };
     }

@@ -1,6 +1,6 @@
 //! Cells of rows.
 
-ghost use Rattle.std.specs.Prelude.{◌≡◌, ◌==◌, ◌≤◌, ◌<◌, IfOk, Option, None, Some, IsTrue, map, replicate};
+ghost use Rattle.std.specs.Prelude.{◌≡◌, ◌==◌, ◌≤◌, ◌<◌, IfOk, Option, None, Some, IsTrue, map, replicate, length, get_or};
 ghost use Rattle.std.specs.List.{list_all};
 ghost use Rattle.layout_meaning.specs.Side.{is_pred, is_none, find_in_row, write_in_row, all_free, free_at, put_at, first_free};
 ghost use Rattle.primary_rows.specs.Cells.{value_of, fits, fits_cell, pair_of, pair_with, is_small, is_small_if};
@@ -110,14 +110,6 @@ impl Row {
         Ok(Row { pairs })
     }
 
-    /// A row of these pairs.
-    pub(crate) fn of(pairs: Vec<Pair>) -> Row
-        requires { IsTrue (list_all fits pairs.items) }
-        ensures { result ≡ map pair_of pairs.items }
-    {
-        Row { pairs }
-    }
-
     pub(crate) fn cells(&self) -> &[Pair]
         ensures { map pair_of result.now ≡ self.now }
     {
@@ -130,6 +122,31 @@ impl Row {
         ensures fits { IsTrue (list_all fits result.now) }
     {
         self.pairs.as_slice()
+    }
+
+    /// How many columns there are.
+    pub(crate) fn width(&self) -> usize
+        ensures { result ≡ length self.now }
+    {
+        self.pairs.len()
+    }
+
+    /// The pair in a column.
+    pub(crate) fn pair(&self, column: usize) -> Pair
+        requires { column < length self.now }
+        ensures value { pair_of result ≡ get_or self.now column (pair_of result) }
+        ensures fits { IsTrue (fits result) }
+    {
+        self.pairs[column]
+    }
+
+    /// Puts a pair into a column.
+    pub(crate) fn set(&mut self, column: usize, pair: Pair)
+        requires within { column < length self.old }
+        requires fits { IsTrue (fits pair) }
+        ensures { self.new ≡ put_at self.old column (pair_of pair) }
+    {
+        self.pairs[column] = pair;
     }
 
     /// What stands under a predicate.

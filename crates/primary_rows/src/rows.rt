@@ -1,6 +1,6 @@
 //! The rows of one entity.
 
-ghost use Rattle.std.specs.Prelude.{◌≡◌, ◌≤◌, ◌<◌, [], length, is_some, IsTrue, OnOk, OnErr, Option, None, Some};
+ghost use Rattle.std.specs.Prelude.{◌≡◌, ◌≤◌, ◌<◌, [], length, is_some, IsTrue, IfOk, OnOk, OnErr, Option, None, Some};
 ghost use Rattle.layout_meaning.specs.Side.{find, find_in_row, write, place_new};
 ghost use Rattle.primary_rows.specs.Cells.{pair_with, is_small, is_small_if};
 ghost use Rattle.primary_rows.specs.Places.{opens, goes_behind, first_row};
@@ -31,12 +31,12 @@ impl Model for EntityRows {
 }
 
 impl EntityRows {
-    pub(crate) fn new(alloc: Global) -> EntityRows
-        ensures { result ≡ [] }
+    /// No rows, with room for the one that most entities have.
+    pub(crate) fn new(alloc: Global) -> Result<EntityRows, AllocError>
+        ensures { IfOk result (λ rows. rows ≡ []) }
     {
-        EntityRows {
-            rows: Vec::new(alloc),
-        }
+        let rows = Vec::with_capacity(alloc, 1)?;
+        Ok(EntityRows { rows })
     }
 
     /// These rows.
@@ -45,6 +45,15 @@ impl EntityRows {
         ensures { result ≡ rows.items }
     {
         EntityRows { rows }
+    }
+
+    /// The rows, of which there are not more than numbers.
+    pub(crate) fn into_rows(self) -> Vec<Row>
+        ensures rows { result.items ≡ self }
+        ensures few { length result.items ≤ 4294967295 }
+    {
+        let EntityRows { rows } = self;
+        rows
     }
 
     pub(crate) fn as_slice(&self) -> &[Row]

@@ -140,10 +140,16 @@ impl Side {
             mut lists,
             held,
         } = self;
-        let Some(held) = held.checked_add(later.held) else {
+        let Side {
+            columns: _columns,
+            table: later_table,
+            lists: later_lists,
+            held: later_held,
+        } = later;
+        let Some(held) = held.checked_add(later_held) else {
             return Err(AllocError);
         };
-        let table = table.append(alloc, &later.table, &later.lists, &mut lists)?;
+        let table = table.append(alloc, later_table, &later_lists, &mut lists)?;
         // That the ids aren't used up is told by a call.
         let _next = lists.next_number();
         Ok(Side {

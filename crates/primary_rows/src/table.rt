@@ -98,30 +98,35 @@ impl Table {
         Ok(views)
     }
 
-    /// The rows of both, where each later entity is above all others. The lists of the later rows are copied
-    /// under the next numbers.
+    /// The rows of both, where each later entity is above all others. The later rows are moved, and their lists
+    /// are copied under the next numbers.
     pub(crate) fn append(
         self,
         alloc: Global,
-        later: &Table,
+        later: Table,
         from: &Lists,
         to: &mut Lists,
     ) -> Result<Table, AllocError>
-        requires above { IsAbove self later.now }
-        requires good { AllByRecursion IsSoundList (named_lists from.now.lists later.now) }
-        ensures table { IfOk result (λ table. table ≡ self ++ given_entities to.old.next later.now) }
-        ensures lists { OnOk result (to.new ≡ with_lists to.old (named_lists from.now.lists later.now)) }
+        requires above { IsAbove self later }
+        requires good { AllByRecursion IsSoundList (named_lists from.now.lists later) }
+        ensures table { IfOk result (λ table. table ≡ self ++ given_entities to.old.next later) }
+        ensures lists { OnOk result (to.new ≡ with_lists to.old (named_lists from.now.lists later)) }
     {
         let Table {
             mut entities,
             rows,
             mut spilled,
         } = self;
-        let Some(rows) = rows.checked_add(later.rows) else {
+        let Table {
+            entities: later_entities,
+            rows: later_rows,
+            spilled: later_spilled,
+        } = later;
+        let Some(rows) = rows.checked_add(later_rows) else {
             return Err(AllocError);
         };
-        spilled.add(&later.spilled)?;
-        move_entities(&mut entities, alloc, &later.entities, from, to)?;
+        spilled.add(&later_spilled)?;
+        move_entities(&mut entities, alloc, later_entities, from, to)?;
         Ok(Table {
             entities,
             rows,
@@ -170,16 +175,17 @@ impl Table {
         ensures ok { OnOk result (self.new ≡ with_rows self.old entity (place_new width columns.now (record { pred = pred; value = value }) (rows_of self.old entity))) }
         ensures err { OnErr result (self.new ≡ self.old) }
     {
-        let Some(rows) = more_rows(self.rows, opens(&self.entities, entity, columns)) else {
+        let (there, opens, behind) = stand(&self.entities, entity, columns);
+        let Some(rows) = more_rows(self.rows, opens) else {
             return Err(AllocError);
         };
-        let behind = goes_behind(&self.entities, entity, columns);
         note(&mut self.spilled, behind, pred)?;
         let Ok(()) = put(
             &mut self.entities,
             alloc,
             width,
             columns,
+            there,
             entity,
             pred,
             value,
@@ -260,21 +266,16 @@ fn fewer_rows(rows: u64, dropped: bool) -> u64
     if dropped { rows - 1 } else { rows }
 }
 
-fn opens(entities: &BTreeMap<u32, EntityRows>, entity: u32, columns: &[u32]) -> bool
-    ensures { result ≡ opens columns.now (rows_of entities.now.entries entity) }
+/// Whether an entity is there, whether a pair with these candidates needs a new row of it, and whether the pair
+/// comes behind its first row.
+fn stand(entities: &BTreeMap<u32, EntityRows>, entity: u32, columns: &[u32]) -> (bool, bool, bool)
+    ensures there { result.0 ≡ is_some (get nat_cmp entities.now entity) }
+    ensures opens { result.1 ≡ opens columns.now (rows_of entities.now.entries entity) }
+    ensures behind { result.2 ≡ goes_behind columns.now (rows_of entities.now.entries entity) }
 {
     match entities.get(&entity) {
-        Some(rows) => rows.opens(columns),
-        None => true,
-    }
-}
-
-fn goes_behind(entities: &BTreeMap<u32, EntityRows>, entity: u32, columns: &[u32]) -> bool
-    ensures { result ≡ goes_behind columns.now (rows_of entities.now.entries entity) }
-{
-    match entities.get(&entity) {
-        Some(rows) => rows.goes_behind(columns),
-        None => false,
+        Some(rows) => (true, rows.opens(columns), rows.goes_behind(columns)),
+        None => (false, true, false),
     }
 }
 
@@ -367,12 +368,13 @@ fn put_into(
     rows.place_new(alloc, width, columns, pred, value)
 }
 
-/// Puts a pair that isn't there into the rows of an entity.
+/// Puts a pair that isn't there into the rows of an entity, which is there or isn't.
 fn put(
     entities: &mut BTreeMap<u32, EntityRows>,
     alloc: Global,
     width: usize,
     columns: &[u32],
+    there: bool,
     entity: u32,
     pred: u32,
     value: Value,
@@ -380,13 +382,14 @@ fn put(
     requires some { 0 < length columns.now }
     requires low { 1 ≤ pred }
     requires small { IsTrue (is_small value) }
+    requires there { there ≡ is_some (get nat_cmp entities.old entity) }
     ensures ok { OnOk result (entities.new.entries ≡ with_rows entities.old.entries entity (place_new width columns.now (record { pred = pred; value = value }) (rows_of entities.old.entries entity))) }
     ensures err { OnErr result (entities.new.entries ≡ entities.old.entries) }
 {
-    if entities.contains_key(&entity) {
+    if there {
         return put_into(entities, alloc, width, columns, entity, pred, value);
     }
-    let mut rows = EntityRows::new(alloc);
+    let mut rows = EntityRows::new(alloc)?;
     rows.place_new(alloc, width, columns, pred, value)?;
     let Ok(_old) = entities.insert(entity, rows) else {
         return Err(AllocError);

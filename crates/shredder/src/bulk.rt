@@ -8,6 +8,7 @@ ghost use Rattle.layout_standing_meaning.specs.Stored.{IsIdIn, text_of_id};
 ghost use Rattle.layout_bulk_meaning.specs.Bulk.{by_entity, placed_all, bulk_side};
 ghost use Rattle.shredder.specs.Items.{item_of, placed_order};
 
+use crate::pieces::{all_appended, placed_apart};
 use pred_columns::Columns;
 use primary_rows::Side;
 use rdf_meaning::TermId;
@@ -15,7 +16,6 @@ use std::alloc::{AllocError, Global};
 use std::cmp::Ordering;
 use std::thread::Threads;
 use term_book::TermBook;
-use value_lists::Lists;
 
 /// A value of an entity under a predicate, by ids.
 #[derive(Clone, Copy, Debug, PartialEq, Eq, Hash)]
@@ -53,7 +53,7 @@ fn place(side: &mut Side, alloc: Global, placed: Placed, iris: &TermBook) -> Res
 }
 
 /// Places the items of a run of entities.
-fn place_all(
+pub(crate) fn place_all(
     alloc: Global,
     side: Side,
     placed: &[Placed],
@@ -70,21 +70,22 @@ fn place_all(
 }
 
 /// The side of items: they are placed entity by entity, and its lists have the ids from -1 downwards by rising
-/// entity, row number and column. The predicates are ids of the book, whose texts are their IRIs. All is done
-/// in one piece, whatever the number of pieces.
+/// entity, row number and column. The predicates are ids of the book, whose texts are their IRIs. The items are
+/// placed in as many runs as there are pieces, each by a thread of its own where one can be made, and
+/// no piece is one piece.
 pub fn shred<R: Threads + Sync>(
-    _rt: &R,
+    rt: &R,
     alloc: Global,
     placed: &[Placed],
     iris: &TermBook,
     columns: Columns,
-    _pieces: u32,
+    pieces: u32,
 ) -> Result<Side, AllocError>
     requires preds { AllByRecursion (λ x. IsIdIn iris.now x.pred) (map item_of placed.now) }
     ensures { IfOk result (λ side. side ≡ bulk_side columns (text_of_id iris.now) (map item_of placed.now)) }
 {
+    let pieces = (pieces as usize).max(1);
     let sorted = sorted(alloc, placed)?;
-    let later = Side::new(alloc, columns.copy(alloc)?, Lists::starting(alloc, -1));
-    let later = place_all(alloc, later, sorted.as_slice(), iris)?;
-    Side::new(alloc, columns, Lists::starting(alloc, -1)).append(alloc, later)
+    let parts = placed_apart(rt, alloc, sorted.as_slice(), iris, &columns, pieces)?;
+    all_appended(alloc, columns, parts)
 }

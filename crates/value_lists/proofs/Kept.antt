@@ -1,49 +1,56 @@
 -- Steps on the values of a list, and what is known of a list behind its id.
-use Rattle.std.proofs.Common.{◌≡◌, ℕ, ℤ, zero, suc, ◌+◌, ◌<◌, ◌≤◌, ◌==◌, nat_eq, ◌||◌, Bool, true, false, cond, List, [], ◌∷◌, ◌++◌, IsSome, length, take, drop, get_or, remove, arith, refl, sym, ap, ◌∙◌}
+use Rattle.std.proofs.Common.{◌≡◌, ℕ, ℤ, zero, suc, ◌+◌, ◌-◌, ◌<◌, ◌≤◌, ◌==◌, nat_eq, ◌||◌, Bool, true, false, cond, List, [], ◌∷◌, ◌++◌, IsSome, length, take, get_or, remove, arith, refl, sym, ap, ◌∙◌}
 use Rattle.std.specs.List.{list_any}
 use Rattle.std.specs.Ordering.{nat_cmp}
 use Rattle.std.specs.BTreeMap.{is_at}
 use Rattle.std.specs.Map.{lookup}
 use Rattle.std.specs.Set.{remove_key}
-use Rattle.std.proofs.Math.Seq.{drop-cons, take-suc}
+use Rattle.std.proofs.lemmas.List.Folds.{list_any_more}
 use Rattle.layout_meaning.specs.Side.{elements_of}
 use Rattle.layout_meaning.specs.Sound.{one_if, times}
 use Rattle.layout_meaning.specs.Lists.{ListsOf, number_of}
 use Rattle.layout_meaning.proofs.Sums.{total-remove_key, total-append}
 use Rattle.layout_meaning.proofs.RowsKept.{times-none, at_most}
 
--- a test that passes behind a place
-pub any-within : (p : ℕ → Bool) (i : ℕ) (xs : List ℕ) → list_any p (drop i xs) ≡ true → i < length xs
-any-within p zero [] h = cc
-any-within p (suc i) [] h = cc
-any-within p zero (x ∷ xs) h = omega arith
-any-within p (suc i) (x ∷ xs) h = omega (arith, any-within p i xs h)
+-- looking for a value from the back
+pub front-some : (v n : ℕ) (xs : List ℕ) → list_any (nat_eq v) (take n xs) ≡ true → 0 < n
+front-some v zero xs h = cc
+front-some v (suc n) xs h = omega arith
 
-pub any-next : (v : ℕ) (i : ℕ) (x : ℕ) (xs : List ℕ) → i < length xs → x ≡ get_or xs i x → nat_eq v x ≡ false → list_any (nat_eq v) (drop i xs) ≡ true → list_any (nat_eq v) (drop (i + 1) xs) ≡ true
-any-next v i x xs within is differ h =
-    let e : drop i xs ≡ x ∷ drop (suc i) xs = drop-cons xs i x within ∙ ap (λ (y : ℕ). y ∷ drop (suc i) xs) (sym is) in
+pub front-less : (v n x : ℕ) (xs : List ℕ) → 0 < n → n ≤ length xs → x ≡ get_or xs (n - 1) x → nat_eq v x ≡ false → list_any (nat_eq v) (take n xs) ≡ true → list_any (nat_eq v) (take (n - 1) xs) ≡ true
+front-less v zero x xs some within is differ h = absurd (omega arith)
+front-less v (suc i) x xs some within is differ h =
     let n : suc i ≡ i + 1 = omega arith in
-    ap (λ (m : ℕ). list_any (nat_eq v) (drop m xs)) (sym n) ∙ sym (ap (λ (b : Bool). b || list_any (nat_eq v) (drop (suc i) xs)) differ) ∙ sym (ap (list_any (nat_eq v)) e) ∙ h
-
-pub removed-next : (v : ℕ) (i : ℕ) (x : ℕ) (xs : List ℕ) → i < length xs → x ≡ get_or xs i x → nat_eq v x ≡ false
-    → remove_key (nat_eq v) xs ≡ take i xs ++ remove_key (nat_eq v) (drop i xs) → remove_key (nat_eq v) xs ≡ take (i + 1) xs ++ remove_key (nat_eq v) (drop (i + 1) xs)
-removed-next v i x xs within is differ h =
-    let e : drop i xs ≡ x ∷ drop (suc i) xs = drop-cons xs i x within ∙ ap (λ (y : ℕ). y ∷ drop (suc i) xs) (sym is) in
-    let n : suc i ≡ i + 1 = omega arith in
-    let t : take (suc i) xs ≡ take i xs ++ x ∷ [] = take-suc xs i x within ∙ ap (λ (y : ℕ). take i xs ++ y ∷ []) (sym is) in
-    h ∙ ap (λ (l : List ℕ). take i xs ++ remove_key (nat_eq v) l) e ∙ ap (λ (b : Bool). take i xs ++ cond b (drop (suc i) xs) (x ∷ remove_key (nat_eq v) (drop (suc i) xs))) differ
-    ∙ sym (append_one (take i xs) x (remove_key (nat_eq v) (drop (suc i) xs))) ∙ ap (λ (l : List ℕ). l ++ remove_key (nat_eq v) (drop (suc i) xs)) (sym t)
-    ∙ ap (λ (m : ℕ). take m xs ++ remove_key (nat_eq v) (drop m xs)) n
+    let m : suc i - 1 ≡ i = omega arith in
+    let more = list_any_more (nat_eq v) xs i x (omega arith) in
+    let at : x ≡ get_or xs i x = is ∙ ap (λ (k : ℕ). get_or xs k x) m in
+    let no : nat_eq v (get_or xs i x) ≡ false = ap (nat_eq v) (sym at) ∙ differ in
+    let both : (list_any (nat_eq v) (take i xs) || nat_eq v (get_or xs i x)) ≡ true = sym more ∙ ap (λ (k : ℕ). list_any (nat_eq v) (take k xs)) (sym n) ∙ h in
+    ap (λ (k : ℕ). list_any (nat_eq v) (take k xs)) m ∙ by (list_any (nat_eq v) (take i xs)) (nat_eq v (get_or xs i x)) no both
   where
-    append_one : (ys : List ℕ) (x : ℕ) (zs : List ℕ) → (ys ++ x ∷ []) ++ zs ≡ ys ++ x ∷ zs
-    append_one [] x zs = refl
-    append_one (y ∷ ys) x zs = ap (λ (l : List ℕ). y ∷ l) (append_one ys x zs)
+    by : (a b : Bool) → b ≡ false → (a || b) ≡ true → a ≡ true
+    by true b e f = refl
+    by false b e f = sym e ∙ f
 
-pub removed-here : (v : ℕ) (i : ℕ) (x : ℕ) (xs : List ℕ) → i < length xs → x ≡ get_or xs i x → nat_eq v x ≡ true
-    → remove_key (nat_eq v) xs ≡ take i xs ++ remove_key (nat_eq v) (drop i xs) → remove xs i ≡ remove_key (nat_eq v) xs
-removed-here v i x xs within is same h =
-    let e : drop i xs ≡ x ∷ drop (suc i) xs = drop-cons xs i x within ∙ ap (λ (y : ℕ). y ∷ drop (suc i) xs) (sym is) in
-    sym (h ∙ ap (λ (l : List ℕ). take i xs ++ remove_key (nat_eq v) l) e ∙ ap (λ (b : Bool). take i xs ++ cond b (drop (suc i) xs) (x ∷ remove_key (nat_eq v) (drop (suc i) xs))) same)
+times-at : (v i d : ℕ) (xs : List ℕ) → i < length xs → get_or xs i d ≡ v → 1 ≤ times v xs
+times-at v i d [] within is = absurd (omega arith)
+times-at v zero d (x ∷ xs) within is = let one : one_if (x == v) ≡ 1 = grind arith in omega (arith, one)
+times-at v (suc i) d (x ∷ xs) within is = omega (arith, times-at v i d xs (omega arith) is)
+
+one-same : (v x : ℕ) → nat_eq v x ≡ true → one_if (x == v) ≡ 1
+one-same v x e = let s : (x == v) ≡ true = grind arith in rw s refl
+
+-- a value that stands once is taken out at its place
+pub removed-once : (v i d : ℕ) (xs : List ℕ) → i < length xs → get_or xs i d ≡ v → times v xs ≤ 1 → remove xs i ≡ remove_key (nat_eq v) xs
+removed-once v i d [] within is once = absurd (omega arith)
+removed-once v zero d (x ∷ xs) within is once = let same : nat_eq v x ≡ true = grind arith in rw same refl
+removed-once v (suc i) d (x ∷ xs) within is once = by (removed-once v i d xs (omega arith) is) (nat_eq v x) refl
+  where
+    by : (times v xs ≤ 1 → remove xs i ≡ remove_key (nat_eq v) xs) → (b : Bool) → nat_eq v x ≡ b → x ∷ remove xs i ≡ cond b xs (x ∷ remove_key (nat_eq v) xs)
+    by ih true e =
+        let one : one_if (x == v) ≡ 1 = one-same v x e in
+        absurd (omega (arith, one, once, times-at v i d xs (omega arith) is))
+    by ih false e = ap (λ (l : List ℕ). x ∷ l) (ih (omega (arith, once)))
 
 -- which values are left, where none stands twice
 pub any-removed : (v q : ℕ) (xs : List ℕ) → ((w : ℕ) → times w xs ≤ 1) → list_any (nat_eq q) (remove_key (nat_eq v) xs) ≡ cond (nat_eq v q) false (list_any (nat_eq q) xs)
@@ -98,15 +105,3 @@ apart-test v w h = by (nat_eq w v) refl
 -- an answer about the list of an id, read at an equal one
 pub held_at : (w : ListsOf) (x : ℕ) (i j : ℤ) (b : Bool) → i ≡ j → b ≡ list_any (nat_eq x) (elements_of w.lists (number_of i)) → b ≡ list_any (nat_eq x) (elements_of w.lists (number_of j))
 held_at w x i j b e h = h ∙ ap (λ (z : ℤ). list_any (nat_eq x) (elements_of w.lists (number_of z))) e
-
-same_default : (xs : List ℕ) (i d e : ℕ) → i < length xs → get_or xs i d ≡ get_or xs i e
-same_default [] i d e h = absurd (omega arith)
-same_default (x ∷ xs) zero d e h = refl
-same_default (x ∷ xs) (suc i) d e h = same_default xs i d e (omega arith)
-
-pub removed-at : (v : ℕ) (i d : ℕ) (xs : List ℕ) → list_any (nat_eq v) (drop i xs) ≡ true → get_or xs i d ≡ v
-    → remove_key (nat_eq v) xs ≡ take i xs ++ remove_key (nat_eq v) (drop i xs) → remove xs i ≡ remove_key (nat_eq v) xs
-removed-at v i d xs ahead same h =
-    let within : i < length xs = any-within (nat_eq v) i xs ahead in
-    let here : nat_eq v (get_or xs i d) ≡ true = grind arith in
-    removed-here v i (get_or xs i d) xs within (same_default xs i d (get_or xs i d) within) here h

@@ -1,5 +1,5 @@
 -- What the calls on lists answer.
-use Rattle.std.specs.Prelude.{◌≤◌, ◌≤ℤ◌, ℕ, ℤ, negsuc, nat_eq, Bool, true, false, if◌then◌else◌, IsSome, List, Option, Some, None}
+use Rattle.std.specs.Prelude.{◌≤ℤ◌, ℕ, ℤ, negsuc, nat_eq, Bool, true, false, if◌then◌else◌, IsSome, List, Option, Some, None}
 use Rattle.std.specs.List.{list_any}
 use Rattle.std.specs.Ordering.{nat_cmp}
 use Rattle.std.specs.BTreeMap.{is_at}

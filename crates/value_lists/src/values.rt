@@ -1,9 +1,10 @@
 //! The values of one list.
 
-ghost use Rattle.std.specs.Prelude.{◌≡◌, ◌<◌, ◌∷◌, ◌++◌, [], ℕ, nat_eq, true, false, length, remove, IfOk, OnOk, OnErr};
+ghost use Rattle.std.specs.Prelude.{◌≡◌, ◌<◌, ◌≤◌, ◌∷◌, ◌++◌, [], ℕ, nat_eq, true, false, length, remove, IfOk, OnOk, OnErr};
 ghost use Rattle.std.specs.List.{list_any};
 ghost use Rattle.std.specs.Set.{remove_key};
 ghost use Rattle.std.specs.HashSet.{contains};
+ghost use Rattle.layout_meaning.specs.Sound.{times};
 ghost use Rattle.value_lists.specs.Values.{IsIndexOf};
 
 use std::alloc::{AllocError, Global};
@@ -99,17 +100,19 @@ fn is_among(items: &[u32], value: u32) -> bool
     items.iter().any(|&item| value == item)
 }
 
-/// Where a value stands that is there.
+/// Where a value stands that is there, and not twice. It is looked for from the back, since the values that came
+/// last are often the first to go.
 fn place_of(items: &[u32], value: u32) -> usize
-    requires { list_any (nat_eq value) items.now ≡ true }
+    requires there { list_any (nat_eq value) items.now ≡ true }
+    requires once { times value items.now ≤ 1 }
     ensures within { result < length items.now }
     ensures place { remove items.now result ≡ remove_key (nat_eq value) items.now }
 {
-    let mut at = 0;
-    while items[at] != value {
-        at += 1;
+    let mut end = items.len();
+    while items[end - 1] != value {
+        end -= 1;
     }
-    at
+    end - 1
 }
 
 /// An index of these values.

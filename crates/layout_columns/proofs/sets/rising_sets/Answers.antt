@@ -1,6 +1,5 @@
 use Rattle.std.proofs.Common.{◌∙◌, ◌||◌, ℕ, nat_eq, List, sym, ap, subst}
 use Rattle.std.specs.Cmp.Lexicographic.{pointwise}
-use Rattle.std.specs.Prelude.{IsPermutation}
 use Rattle.std.specs.List.{list_any, AllByRecursion}
 use Rattle.std.specs.List.Sorted.{IsStrictlySortedBy}
 use Rattle.std.specs.Map.{values_of}
@@ -14,7 +13,7 @@ loop-entity-preserved c = record {
   joined = λ p q.
       ap (λ (sets : List (List ℕ)). list_any (has_both p q) sets || list_any (has_both p q) (values_of c.next.new.self)) c.in_ok-note.ensures
       ∙ set-more p q c.loop-entity.sets c.in_ok-set.set.items c.in-Some.preds.now (list_any (has_both p q) (values_of c.next.new.self)) (list_any (has_both p q) (values_of c.args.entities.now.entries))
-      (subst (λ (preds : List ℕ). IsPermutation preds c.in_ok-set.set.items) c.as_slice.ensures.value c.in_ok-set.ensures.permutation)
+      c.in_ok-set.ensures.permutation
       (ap (λ (left : List (ℕ × List ℕ)). list_any (has_both p q) c.loop-entity.sets || list_any (has_both p q) (values_of left)) (sym c.in-Some.ensures.steps)
       ∙ c.loop-entity.invariant.joined p q);
   rising = subst (AllByRecursion (IsStrictlySortedBy nat_cmp)) (sym c.in_ok-note.ensures)

@@ -9,7 +9,7 @@ use Rattle.primary_rows.proofs.append.move_entities.Given as goal
 
 abbrev pub invariant-loop-entity : goal.invariant-loop-entity
 invariant-loop-entity l = record {
-  going : Going (λ (en : ℕ × Rows). lists_in_rows en.1) given_entity (λ (en : ℕ × Rows). named_in_rows l.from.lists en.1) l.fn.entities.entries l.entities.entries l.later.entries l.entity-iterator l.fn.to l.to;
+  going : Going (λ (en : ℕ × Rows). lists_in_rows en.1) given_entity (λ (en : ℕ × Rows). named_in_rows l.from.lists en.1) l.fn.entities.entries l.entities.entries l.fn.later.entries l.entity-iterator l.fn.to l.to;
   above : IsAbove l.entities.entries l.entity-iterator;
   rising : IsStrictlySortedBy nat_cmp (keys_of l.entity-iterator);
 }

@@ -6,8 +6,8 @@ use Rattle.layout_meaning.proofs.RowsKept.{some-place_new}
 use Rattle.primary_rows.proofs.RowSteps.{with_rows_set}
 use Rattle.primary_rows.proofs.table.put.Goals as goal
 
-pub returns-then-contains_key-clause-ok : goal.returns-then-contains_key-clause-ok
-returns-then-contains_key-clause-ok c =
+pub returns-then-there-clause-ok : goal.returns-then-there-clause-ok
+returns-then-there-clause-ok c =
     let there : IsSome (get nat_cmp c.args.entities.now c.args.entity) = search rules in
     let pair : Pair = record { pred = c.args.pred; value = c.args.value } in
     let rows : Rows = rows_of c.args.entities.now.entries c.args.entity in

@@ -1,6 +1,5 @@
 use Rattle.std.proofs.Common.{◌≡◌, refl, replicate, pos}
 use Rattle.primary_rows.specs.declared.cells.Pair as cells
-use Rattle.primary_rows.specs.Cells.{fits}
 use Rattle.primary_rows.proofs.CellSteps.{free-cells, free-fits}
 use Rattle.primary_rows.proofs.cells.Row.free.Goals as goal
 

@@ -1,4 +1,4 @@
-use Rattle.std.proofs.Common.{◌≡◌, ◌∙◌, ap, ◌≤◌, ◌+◌, ◌-◌, ◌^◌, sym, arith, Option, Some, None, nat_eq, false}
+use Rattle.std.proofs.Common.{◌≡◌, ◌∙◌, ap, ◌≤◌, ◌+◌, ◌^◌, sym, arith, Option, Some, None, nat_eq, false}
 use Rattle.std.specs.List.{list_any}
 use Rattle.layout_meaning.specs.declared.value.Value.{Value}
 use Rattle.layout_meaning.specs.declared.value.Value.TheVariants.{One, Many}

@@ -2,19 +2,17 @@
 use Rattle.std.proofs.Common.{◌≡◌, ℕ, true, List, refl, sym, ap, ◌∙◌, subst}
 use Rattle.std.proofs.lemmas.Bool.{and_parts}
 use Rattle.std.specs.Prelude.{Option, Some, None, Result, Ok, Err, MatchOption, nat_le}
+use Rattle.table_meaning.specs.declared.cell.Cell.{Cell}
 use Rattle.table_meaning.specs.CellText.{cells_text}
 use Rattle.table_meaning.specs.Tables.{NamedTable, RowTable}
 use Rattle.sql_meaning.specs.Scripts.{depth_of, most_levels, script_form, is_writable}
 use Rattle.sql_meaning.specs.declared.script.Script.{Script}
 use Rattle.sql_rows_meaning.specs.declared.fault.Fault.{Fault}
-use Rattle.sql_rows_meaning.specs.declared.schema.NamedSchema.{NamedSchema}
 use Rattle.sql_rows_meaning.specs.Scopes.{schemas_in}
-use Rattle.sql_rows_meaning.specs.Rows.{script_rows}
 use Rattle.sql_rows_meaning.specs.Binding.{check_script}
-use Rattle.sql_bind_forms.specs.Forms.{BoundForm, HasRowsOf}
 use Rattle.sql_bind.specs.declared.refusal.BindRefusal.{BindRefusal}
 use Rattle.sql_bind.specs.Refusals.{fault_of}
-use Rattle.sql_bind.specs.Bound.{IsBoundFrom}
+use Rattle.run_script.specs.Rows.{AreRowsOf}
 use Rattle.run_meaning.specs.declared.status.Status.{Status}
 use Rattle.run_meaning.specs.declared.status.Status.TheVariants.{BadSql, NoMemory}
 use Rattle.run_exec_meaning.specs.Running.{Running, running, fault_in, bound_work, judged_script, ScriptAsks, ScriptText}
@@ -26,11 +24,11 @@ pub writable_form : (script : Script) → is_writable script ≡ true → script
 writable_form script h = (and_parts (nat_le (depth_of script) most_levels) (script_form script) h).1
 
 -- the first fault is the status that is asked for
-pub bind_refused : (e : BindRefusal) (status : Status) (script : Script) (tables : List NamedTable) (schemas : List NamedSchema) → schemas ≡ schemas_in tables
-    → ((f : Fault) → fault_of e ≡ Some f → check_script script schemas ≡ Err f)
+pub bind_refused : (e : BindRefusal) (status : Status) (script : Script) (tables : List NamedTable)
+    → ((f : Fault) → fault_of e ≡ Some f → check_script script (schemas_in tables) ≡ Err f)
     → MatchOption (fault_of e) (status ≡ NoMemory) (λ f. status ≡ BadSql (fault_in f.kind f.select))
     → RefusedAs status (λ s. judged_script tables script ≡ Err s)
-bind_refused e status script tables schemas same first told = by (fault_of e) refl told
+bind_refused e status script tables first told = by (fault_of e) refl told
   where
     Owed : Status → Type 0
     Owed s = RefusedAs s (λ t. judged_script tables script ≡ Err t)
@@ -38,28 +36,18 @@ bind_refused e status script tables schemas same first told = by (fault_of e) re
     by : (o : Option Fault) → fault_of e ≡ o → MatchOption o (status ≡ NoMemory) (λ f. status ≡ BadSql (fault_in f.kind f.select)) → Owed status
     by None h is = subst Owed (sym is) tt
     by (Some f) h is =
-        let here : check_script script (schemas_in tables) ≡ Err f = ap (check_script script) (sym same) ∙ first f h in
-        subst Owed (sym is) (ap (bound_work tables script) here)
+        subst Owed (sym is) (ap (bound_work tables script) (first f h))
 
--- what was bound over equal schemas
-pub bound_over : (script : Script) (given schemas : List NamedSchema) (b : BoundForm) → given ≡ schemas → IsBoundFrom script given b → IsBoundFrom script schemas b
-bound_over script given schemas b same bound = subst (λ (ss : List NamedSchema). IsBoundFrom script ss b) same bound
-
--- a script that is bound is run
-pub bound_judged : (script : Script) (tables : List NamedTable) (b : BoundForm) → IsBoundFrom script (schemas_in tables) b → judged_script tables script ≡ Ok (running tables script)
-bound_judged script tables b bound = ap (bound_work tables script) bound.columns
-
--- a script is run over the tables for which it is bound
-pub same_tables : (script : Script) (tables : List NamedTable) (b : BoundForm) → IsBoundFrom script (schemas_in tables) b → schemas_in tables ≡ b.tables
-same_tables script tables b bound = sym bound.tables
+-- a script that has rows is run
+pub rows_judged : (script : Script) (tables : List NamedTable) (rows : RowTable) → AreRowsOf script tables rows → judged_script tables script ≡ Ok (running tables script)
+rows_judged script tables rows are = ap (bound_work tables script) are.bound
 
 -- the cells of the script's rows are those that are asked for
-pub cells_fit : (script : Script) (tables : List NamedTable) (b : BoundForm) (rows : RowTable) (cells : List ℕ) → IsBoundFrom script (schemas_in tables) b
-    → ((s : Script) → HasRowsOf s b → rows ≡ record { schema = b.columns; rows = script_rows s tables }) → cells ≡ cells_text rows → ScriptText (running tables script) cells
-cells_fit script tables b rows cells bound run text = record {
-  columns = b.columns;
-  bound = bound.columns;
-  cells = text ∙ ap cells_text (run script bound.rows);
+pub cells_fit : (script : Script) (tables : List NamedTable) (rows : RowTable) (cells : List ℕ) → AreRowsOf script tables rows → cells ≡ cells_text rows → ScriptText (running tables script) cells
+cells_fit script tables rows cells are text = record {
+  columns = rows.schema;
+  bound = are.bound;
+  cells = text ∙ ap (λ (rs : List (List Cell)). cells_text (record { schema = rows.schema; rows = rs })) are.rows;
 }
 
 -- what the text asks for, where its script is run

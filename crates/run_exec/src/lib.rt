@@ -3,7 +3,6 @@
 
 mod parts;
 mod run;
-mod schemas;
 mod work;
 
 pub use work::script_text;

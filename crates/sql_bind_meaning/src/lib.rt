@@ -5,4 +5,4 @@ mod expression;
 mod script;
 
 pub use expression::{BoundBranch, BoundExpr};
-pub use script::{BoundBody, BoundCore, BoundJoin, BoundKey, BoundScript};
+pub use script::{BoundBody, BoundCore, BoundJoin, BoundKey, BoundScript, share_script};

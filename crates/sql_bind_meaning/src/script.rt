@@ -51,3 +51,11 @@ pub struct BoundKey {
     /// Whether DESC stands behind it.
     pub down: bool,
 }
+
+// Takes what pieces may read at the same time.
+fn share<T: Sync>(_value: &T) {}
+
+/// A bound script, with its expressions, may be read by several threads at the same time.
+pub fn share_script(script: &BoundScript) {
+    share(script)
+}

@@ -17,7 +17,7 @@ use std::thread::Threads;
 /// their order, under the schema of the script's columns; they are the same for each number of pieces, of which there are
 /// 1 to 64.
 pub fn execute<T: TableSet + Sync, R: Threads + Sync>(
-    _rt: &R,
+    rt: &R,
     alloc: Global,
     bound: &Bound,
     tables: &T,
@@ -28,9 +28,14 @@ pub fn execute<T: TableSet + Sync, R: Threads + Sync>(
     ensures rows { IfOk result (λ list. list ≡ record { schema = bound.now.columns; rows = bound_rows bound.now.placed (T.named_tables tables.now) }) }
     ensures script { IfOk result (λ list. (s : Script) → HasRowsOf s bound.now → list ≡ record { schema = bound.now.columns; rows = script_rows s (T.named_tables tables.now) }) }
 {
-    // The work is done in one piece, whatever their number is.
-    let _ = pieces;
     // With the count of the tables comes that their rows have the kinds of their columns.
     let _ = tables.tables();
-    row_list(alloc, bound.schema(), bound.placed(), tables)
+    row_list(
+        rt,
+        alloc,
+        bound.schema(),
+        bound.placed(),
+        tables,
+        pieces as usize,
+    )
 }

@@ -1,4 +1,4 @@
-//! The rows of scripts of the SQL dialect, by the plain reading of what they mean.
+//! The rows of scripts of the SQL dialect, their SELECTs in pieces, by indexes of the columns that joins compare.
 #![tactic(auto)]
 
 mod execute_bound;

@@ -1,9 +1,13 @@
-//! The rows that are picked from the sources of a SELECT, by plain nested loops: each is a list of places, one a source.
+//! The rows that are picked from the sources of a SELECT: joins by keys and indexes, in runs of the rows of FROM.
 #![tactic(auto)]
 
+mod filters;
+mod indexes;
 mod joins;
-mod picked_row;
-mod sources;
+mod keys;
+mod picked_rows;
+mod runs;
 
-pub use picked_row::PickedRow;
-pub use sources::passed_rows;
+pub use indexes::keep_indexes;
+pub use picked_rows::PickedRows;
+pub use runs::passed_rows;

@@ -1,2 +1,3 @@
 pub mod SameRows
+pub mod Numbered
 pub mod KeyedRows

@@ -1,82 +1,80 @@
 //! The rows of a SELECT.
 
-ghost use Rattle.std.specs.Prelude.{◌≡◌, IfOk, drop};
-ghost use Rattle.sql_rows_meaning.specs.Selects.{unrepeated, dropped, kept};
+ghost use Rattle.std.specs.Prelude.{◌≡◌, ◌≤◌, IfOk, length};
+ghost use Rattle.std.specs.List.{range_with_len};
+ghost use Rattle.bags.specs.Sort.{sort};
 ghost use Rattle.sql_bind_meaning.specs.Selects.{bound_select_rows};
+ghost use Rattle.sql_engine_values.specs.Places.{source_numbers};
+ghost use Rattle.sql_engine_selects.specs.Numbered.{number_order};
 
-use crate::shown::{ShownRow, copy_rows};
-use crate::sorting::sorted_rows;
+use crate::key_order::{are_read_again, sort_by_places};
+use crate::keyed::sorted_by_cells;
+use crate::numbered::{cut, first_numbers};
+use crate::shown::{copied_rows, copy_rows, shown_rows};
 use list_steps::first_items;
 use rel_cells::{Row, TableSet};
-use sql_bind_meaning::BoundCore;
-use sql_engine_joins::passed_rows;
-use sql_engine_values::Relations;
+use sql_bind_meaning::{BoundCore, BoundKey};
+use sql_engine_joins::{PickedRows, passed_rows};
+use sql_engine_values::{Relations, Sources};
 use std::alloc::{AllocError, Global};
+use std::thread::Threads;
 
-// The first of equal rows, where asked.
-fn unrepeated(
+// The numbers of the picked rows, in the order of the keys.
+fn sorted_numbers<'a, T: TableSet>(
     alloc: Global,
-    distinct: bool,
-    rows: Vec<ShownRow<'_>>,
-) -> Result<Vec<ShownRow<'_>>, AllocError>
-    ensures { IfOk result (λ kept. kept.items ≡ unrepeated distinct rows.entry.items) }
+    keys: &'a [BoundKey],
+    sources: &'a Sources<'a, T>,
+    rows: &PickedRows,
+) -> Result<Vec<usize>, AllocError>
+    ensures { IfOk result (λ order. order.items ≡ sort (number_order sources.now rows.now keys.now) (range_with_len 0 (length rows.now.rows))) }
 {
-    if distinct {
-        first_items(alloc, rows)
+    let mut order = first_numbers(alloc, rows.count())?;
+    if are_read_again(keys) {
+        sort_by_places(keys, sources, rows, &mut order)?;
+        Ok(order)
     } else {
-        Ok(rows)
+        sorted_by_cells(alloc, keys, sources, rows, &order)
     }
 }
 
-// Without the rows of OFFSET.
-#[tactic(auto, using(std::proofs::lemmas::List::drop_min))]
-fn without_first<'a>(
-    rows: &mut Vec<ShownRow<'a>>,
-    skip: u64,
-) -> Result<Vec<ShownRow<'a>>, AllocError>
-    ensures { IfOk result (λ left. left.items ≡ drop skip rows.old.items) }
-{
-    let skip = (skip as usize).min(rows.len());
-    rows.split_off(skip)
-}
-
-fn dropped(skip: Option<u64>, mut rows: Vec<ShownRow<'_>>) -> Result<Vec<ShownRow<'_>>, AllocError>
-    ensures { IfOk result (λ left. left.items ≡ dropped skip rows.entry.items) }
-{
-    match skip {
-        Some(skip) => without_first(&mut rows, skip),
-        None => Ok(rows),
-    }
-}
-
-// At most as many rows as LIMIT says.
-fn cut(rows: &mut Vec<ShownRow<'_>>, most: Option<u64>)
-    ensures { rows.new.items ≡ kept most rows.old.items }
-{
-    if let Some(most) = most {
-        rows.truncate(most as usize);
-    }
-}
-
-/// The rows of a SELECT over these relations, in their order.
-pub fn select_rows<'a, T: TableSet>(
+// The rows over these sources. Where no row is told from another, OFFSET and LIMIT come before the items.
+fn rows_over<'a, T: TableSet + Sync, R: Threads + Sync>(
+    rt: &R,
     alloc: Global,
     core: &'a BoundCore,
-    relations: &'a Relations<'a, T>,
+    sources: &'a Sources<'a, T>,
+    pieces: usize,
 ) -> Result<Vec<Row>, AllocError>
+    requires pieces { 1 ≤ pieces }
+    requires sources { sources.now.numbers ≡ source_numbers core.now }
+    ensures { IfOk result (λ rows. rows.items ≡ bound_select_rows sources.now.relations core.now) }
+{
+    let rows = passed_rows(rt, alloc, core, sources, pieces)?;
+    let order = sorted_numbers(alloc, core.keys.as_slice(), sources, &rows)?;
+    if core.distinct {
+        let shown = shown_rows(alloc, core.items.as_slice(), sources, &rows, &order)?;
+        let firsts = first_items(alloc, shown)?;
+        let copied = copy_rows(alloc, cut(&firsts, core.skip, core.most))?;
+        Ok(copied)
+    } else {
+        let order = cut(&order, core.skip, core.most);
+        let copied = copied_rows(alloc, core.items.as_slice(), sources, &rows, order)?;
+        Ok(copied)
+    }
+}
+
+/// The rows of a SELECT over these relations, in their order: the same for each number of pieces into which the rows of FROM are cut.
+pub fn select_rows<T: TableSet + Sync, R: Threads + Sync>(
+    rt: &R,
+    alloc: Global,
+    core: &BoundCore,
+    relations: &Relations<'_, T>,
+    pieces: usize,
+) -> Result<Vec<Row>, AllocError>
+    requires { 1 ≤ pieces }
     ensures { IfOk result (λ rows. rows.items ≡ bound_select_rows relations.now core.now) }
 {
-    let passed = passed_rows(alloc, core, relations)?;
-    let sorted = sorted_rows(
-        alloc,
-        core.keys.as_slice(),
-        core.items.as_slice(),
-        relations,
-        passed,
-    )?;
-    let distinct = unrepeated(alloc, core.distinct, sorted)?;
-    let mut shown = dropped(core.skip, distinct)?;
-    cut(&mut shown, core.most);
-    let rows = copy_rows(alloc, &shown)?;
+    let sources = Sources::of(alloc, core, relations)?;
+    let rows = rows_over(rt, alloc, core, &sources, pieces)?;
     Ok(rows)
 }

@@ -1,16 +1,19 @@
 //! Rows whose cells are lent, so that those which are not kept cost no copy of a text.
 
-ghost use Rattle.std.specs.Prelude.{◌≡◌, IfOk};
+ghost use Rattle.std.specs.Prelude.{◌≡◌, IfOk, map};
 ghost use Rattle.std.specs.Cmp as comparisons;
 ghost use Rattle.sql_rows_meaning.specs.Cells.{same_cell};
 ghost use Rattle.sql_bind_meaning.specs.Selects.{bound_item_cells};
 ghost use Rattle.sql_engine_values.specs.Places.{picked};
+ghost use Rattle.sql_engine_selects.specs.Numbered.{cells_at};
 ghost use Rattle.sql_engine_selects.specs.SameRows.{same_cell_equiv, same_cell_hash, cell_writes, same_row, same_row_equiv, same_row_hash, row_writes};
 ghost use Rattle.rel_cells.specs.Seen.{seen_cell};
 
+use crate::numbered::row_at;
 use rel_cells::{Cell, CellView, Row, TableSet};
 use sql_bind_meaning::BoundExpr;
-use sql_engine_values::{Place, Relations, same_views, value};
+use sql_engine_joins::PickedRows;
+use sql_engine_values::{Sources, same_views, value};
 use std::alloc::{AllocError, Global};
 use std::hash::{Hash, Hasher};
 use std::marker::Model;
@@ -99,22 +102,39 @@ impl<'a> Hash for ShownRow<'a> {
     }
 }
 
-/// The values of the items over one picked row.
-pub(crate) fn shown_row<'a, T: TableSet>(
+// The values of the items over one picked row.
+fn shown_row<'a, T: TableSet>(
     alloc: Global,
     items: &'a [BoundExpr],
-    relations: &'a Relations<'a, T>,
-    places: &[Place],
+    sources: &'a Sources<'a, T>,
+    row: &[usize],
 ) -> Result<ShownRow<'a>, AllocError>
-    ensures { IfOk result (λ row. row ≡ bound_item_cells items.now (picked relations.now places.now)) }
+    ensures { IfOk result (λ shown. shown ≡ bound_item_cells items.now (picked sources.now row.now)) }
 {
     let mut cells = Vec::with_capacity(alloc, items.len())?;
     for item in items {
         cells.push(ShownCell {
-            view: value(item, relations, places),
+            view: value(item, sources, row),
         })?;
     }
     Ok(ShownRow { cells })
+}
+
+/// The values of the items over the rows with these numbers.
+pub(crate) fn shown_rows<'a, T: TableSet>(
+    alloc: Global,
+    items: &'a [BoundExpr],
+    sources: &'a Sources<'a, T>,
+    rows: &PickedRows,
+    order: &[usize],
+) -> Result<Vec<ShownRow<'a>>, AllocError>
+    ensures { IfOk result (λ shown. shown.items ≡ map (cells_at sources.now rows.now items.now) order.now) }
+{
+    let mut shown = Vec::with_capacity(alloc, order.len())?;
+    for at in order {
+        shown.push(shown_row(alloc, items, sources, row_at(rows, *at))?)?;
+    }
+    Ok(shown)
 }
 
 fn copy_cell(alloc: Global, cell: CellView<'_>) -> Result<Cell, AllocError>
@@ -147,4 +167,37 @@ pub(crate) fn copy_rows(alloc: Global, shown: &[ShownRow<'_>]) -> Result<Vec<Row
         rows.push(copy_row(alloc, row)?)?;
     }
     Ok(rows)
+}
+
+// A row of its own with the values of the items over one picked row.
+fn copied_row<'a, T: TableSet>(
+    alloc: Global,
+    items: &'a [BoundExpr],
+    sources: &'a Sources<'a, T>,
+    row: &[usize],
+) -> Result<Row, AllocError>
+    ensures { IfOk result (λ copied. copied ≡ bound_item_cells items.now (picked sources.now row.now)) }
+{
+    let mut cells = Vec::with_capacity(alloc, items.len())?;
+    for item in items {
+        cells.push(copy_cell(alloc, value(item, sources, row))?)?;
+    }
+    Ok(Row { cells })
+}
+
+/// Rows of their own with the values of the items over the rows with these numbers.
+pub(crate) fn copied_rows<'a, T: TableSet>(
+    alloc: Global,
+    items: &'a [BoundExpr],
+    sources: &'a Sources<'a, T>,
+    rows: &PickedRows,
+    order: &[usize],
+) -> Result<Vec<Row>, AllocError>
+    ensures { IfOk result (λ copied. copied.items ≡ map (cells_at sources.now rows.now items.now) order.now) }
+{
+    let mut copied = Vec::with_capacity(alloc, order.len())?;
+    for at in order {
+        copied.push(copied_row(alloc, items, sources, row_at(rows, *at))?)?;
+    }
+    Ok(copied)
 }

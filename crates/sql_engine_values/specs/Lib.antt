@@ -1,4 +1,3 @@
 pub mod Places
-pub mod TableCells
+pub mod Kept
 pub mod Known
-pub mod Level

@@ -1,14 +1,17 @@
 //! What a script reads: the given tables, and the rows of its steps so far.
 
-ghost use Rattle.std.specs.Prelude.{◌≡◌, ◌<◌, ◌++◌, ◌∷◌, [], length, IsTrue, OnOk, OnErr};
+ghost use Rattle.std.specs.Prelude.{◌≡◌, ◌<◌, ◌++◌, ◌∷◌, [], List, length, IsTrue, IfSome, OnOk, OnErr};
 ghost use Rattle.table_meaning.specs.Tables.{is_table_set};
 ghost use Rattle.sql_bind_meaning.specs.Values.{cell_in, row_in};
 ghost use Rattle.sql_bind_meaning.specs.Sources.{relation_rows};
 ghost use Rattle.sql_bind_meaning.specs.Rows.{table_relations};
 ghost use Rattle.rel_cells.specs.Seen.{seen_cell};
-ghost use Rattle.sql_engine_values.specs.Places.{picked};
+ghost use Rattle.sql_index.specs.Found.{IsIndexOf};
 
+use crate::finding::find;
+use crate::kept::KeptIndex;
 use rel_cells::{CellView, Row, TableSet};
+use sql_index::Index;
 use std::alloc::{AllocError, Global};
 use std::marker::Model;
 
@@ -48,33 +51,29 @@ impl StepRows {
     }
 }
 
-/// The given tables and the steps so far; contracts see the rows of each.
+/// The given tables and the steps so far, with indexes of some of their columns; contracts see the rows of each.
 #[derive(Drop)]
 pub struct Relations<'a, T: TableSet> {
     tables: &'a T,
     steps: Vec<StepRows>,
+    indexes: Vec<KeptIndex>,
 }
 
 impl<'a, T: TableSet> Model for Relations<'a, T> {
-    ghost use Rattle.std.specs.Prelude.{List, ◌++◌};
+    ghost use Rattle.std.specs.Prelude.{List, ◌++◌, All};
     ghost use Rattle.table_meaning.specs.declared.cell.Cell.{Cell};
     ghost use Rattle.sql_bind_meaning.specs.Rows.{table_relations};
+    ghost use Rattle.sql_engine_values.specs.Kept.{IsKept};
 
     ghost Value = { List (List (List Cell)) };
 
     ghost view = { λ r. table_relations (T.named_tables r.tables.now) ++ r.steps.items };
-}
 
-/// A row of a relation, or none where a LEFT JOIN found none.
-#[derive(Clone, Copy, Debug)]
-pub enum Place {
-    /// The number of the relation, and of the row in it.
-    Row(usize, usize),
-    Nothing,
+    ghost invariant = { λ r. All (IsKept (table_relations (T.named_tables r.tables.now) ++ r.steps.items)) r.indexes.items };
 }
 
 // The cell of a table at a place, and null where there is none.
-#[tactic(auto, using(crate::specs::TableCells::past_rows, crate::specs::TableCells::past_columns))]
+#[tactic(auto, using(crate::proofs::TableCells::past_rows, crate::proofs::TableCells::past_columns))]
 fn table_cell<T: TableSet>(tables: &T, table: usize, row: usize, column: usize) -> CellView<'_>
     requires table { table < length (T.named_tables tables.now) }
     requires set { IsTrue (is_table_set (T.named_tables tables.now)) }
@@ -97,6 +96,7 @@ impl<'a, T: TableSet> Relations<'a, T> {
         Relations {
             tables,
             steps: Vec::new(alloc),
+            indexes: Vec::new(alloc),
         }
     }
 
@@ -139,13 +139,46 @@ impl<'a, T: TableSet> Relations<'a, T> {
         }
     }
 
-    /// The cell of the row of one of several places, and null where there is none.
-    pub fn picked_cell(&self, places: &[Place], source: usize, column: usize) -> CellView<'_>
-        ensures { seen_cell result ≡ cell_in (row_in (picked self.now places.now) source) column }
+    /// The index of a column of a relation, where it is kept.
+    pub fn index(&self, relation: usize, column: usize) -> Option<&Index>
+        ensures { IfSome result (λ index. IsIndexOf index.now (relation_rows self.now relation) column) }
     {
-        match places.get(source) {
-            Some(Place::Row(relation, row)) => self.cell(*relation, *row, column),
-            Some(Place::Nothing) | None => CellView::Null,
-        }
+        find(self.indexes.as_slice(), relation, column)
     }
+
+    // Whether there is a relation with this number.
+    pub(crate) fn has(&self, relation: usize) -> bool
+        ensures { IsTrue result → relation < length self.now }
+    {
+        let tables = self.tables.tables();
+        relation < tables || relation - tables < self.steps.len()
+    }
+
+    // Keeps an index; after an error none is kept beside those before.
+    #[tactic(auto, using(crate::proofs::Stays::one_more))]
+    pub(crate) fn add_index(
+        &mut self,
+        relation: usize,
+        column: usize,
+        index: Index,
+    ) -> Result<(), AllocError>
+        requires there { relation < length self.old }
+        requires index { IsIndexOf index (relation_rows self.old relation) column }
+        ensures { self.new ≡ self.old }
+    {
+        self.indexes.push(KeptIndex {
+            relation,
+            column,
+            index,
+        })?;
+        Ok(())
+    }
+}
+
+// Takes what pieces may read at the same time.
+fn share<T: Sync>(_value: &T) {}
+
+/// The tables and the rows of the steps may be read by several threads at the same time, where the tables may.
+pub fn share_relations<T: TableSet + Sync>(relations: &Relations<'_, T>) {
+    share(relations)
 }

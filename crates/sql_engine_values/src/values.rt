@@ -9,7 +9,7 @@ ghost use Rattle.sql_engine_values.specs.Places.{picked};
 ghost use Rattle.sql_engine_values.specs.Known.{known, seen_option, taken};
 
 use crate::cells::{equal_views, is_null, is_true, less_views};
-use crate::relations::{Place, Relations};
+use crate::sources::Sources;
 use rel_cells::{CellView, TableSet};
 use sql_bind_meaning::{BoundBranch, BoundExpr};
 
@@ -55,57 +55,55 @@ fn or_view(so_far: Option<bool>, cell: CellView<'_>) -> Option<bool>
     }
 }
 
-/// The value of an expression over the rows at these places.
+/// The value of an expression over the rows with these numbers.
 #[cycle(value)]
-#[tactic(auto, using(crate::specs::Level::values))]
+#[tactic(auto, using(crate::proofs::Level::values))]
 pub fn value<'a, T: TableSet>(
     expression: &'a BoundExpr,
-    relations: &'a Relations<'a, T>,
-    places: &[Place],
+    sources: &'a Sources<'a, T>,
+    rows: &[usize],
 ) -> CellView<'a>
-    ensures { seen_cell result ≡ bound_value expression.now (picked relations.now places.now) }
+    ensures { seen_cell result ≡ bound_value expression.now (picked sources.now rows.now) }
 {
     match expression {
-        BoundExpr::Cell(source, column) => relations.picked_cell(places, *source, *column),
+        BoundExpr::Cell(source, column) => sources.picked_cell(rows, *source, *column),
         BoundExpr::Int(number) => CellView::Int(*number),
         BoundExpr::Text(text) => CellView::Text(text),
         BoundExpr::Truth(truth) => CellView::Truth(*truth),
         BoundExpr::Null => CellView::Null,
         BoundExpr::Equal(a, b) => truth_view(equal_views(
-            value(a.get(), relations, places),
-            value(b.get(), relations, places),
+            value(a.get(), sources, rows),
+            value(b.get(), sources, rows),
         )),
         BoundExpr::Less(a, b) => truth_view(less_views(
-            value(a.get(), relations, places),
-            value(b.get(), relations, places),
+            value(a.get(), sources, rows),
+            value(b.get(), sources, rows),
         )),
-        BoundExpr::All(parts) => truth_view(all_of(parts.as_slice(), relations, places)),
-        BoundExpr::Any(parts) => truth_view(any_of(parts.as_slice(), relations, places)),
-        BoundExpr::Not(part) => truth_view(not_view(value(part.get(), relations, places))),
-        BoundExpr::IsNull(part) => {
-            CellView::Truth(is_null(value(part.get(), relations, places)))
-        }
+        BoundExpr::All(parts) => truth_view(all_of(parts.as_slice(), sources, rows)),
+        BoundExpr::Any(parts) => truth_view(any_of(parts.as_slice(), sources, rows)),
+        BoundExpr::Not(part) => truth_view(not_view(value(part.get(), sources, rows))),
+        BoundExpr::IsNull(part) => { CellView::Truth(is_null(value(part.get(), sources, rows))) }
         BoundExpr::Case(branches, last) => {
-            match case_of(branches.as_slice(), relations, places) {
+            match case_of(branches.as_slice(), sources, rows) {
                 Some(cell) => cell,
-                None => value(last.get(), relations, places),
+                None => value(last.get(), sources, rows),
             }
         }
-        BoundExpr::First(parts) => first_of(parts.as_slice(), relations, places),
+        BoundExpr::First(parts) => first_of(parts.as_slice(), sources, rows),
     }
 }
 
 #[cycle(value)]
 fn all_of<'a, T: TableSet>(
     parts: &'a [BoundExpr],
-    relations: &'a Relations<'a, T>,
-    places: &[Place],
+    sources: &'a Sources<'a, T>,
+    rows: &[usize],
 ) -> Option<bool>
-    ensures { known result ≡ all_cells (map (λ e. bound_value e (picked relations.now places.now)) parts.now) }
+    ensures { known result ≡ all_cells (map (λ e. bound_value e (picked sources.now rows.now)) parts.now) }
 {
     let mut so_far = Some(true);
     for part in parts {
-        so_far = and_view(so_far, value(part, relations, places));
+        so_far = and_view(so_far, value(part, sources, rows));
         if so_far == Some(false) {
             return Some(false);
         }
@@ -116,14 +114,14 @@ fn all_of<'a, T: TableSet>(
 #[cycle(value)]
 fn any_of<'a, T: TableSet>(
     parts: &'a [BoundExpr],
-    relations: &'a Relations<'a, T>,
-    places: &[Place],
+    sources: &'a Sources<'a, T>,
+    rows: &[usize],
 ) -> Option<bool>
-    ensures { known result ≡ any_cells (map (λ e. bound_value e (picked relations.now places.now)) parts.now) }
+    ensures { known result ≡ any_cells (map (λ e. bound_value e (picked sources.now rows.now)) parts.now) }
 {
     let mut so_far = Some(false);
     for part in parts {
-        so_far = or_view(so_far, value(part, relations, places));
+        so_far = or_view(so_far, value(part, sources, rows));
         if so_far == Some(true) {
             return Some(true);
         }
@@ -135,13 +133,13 @@ fn any_of<'a, T: TableSet>(
 #[cycle(value)]
 fn first_of<'a, T: TableSet>(
     parts: &'a [BoundExpr],
-    relations: &'a Relations<'a, T>,
-    places: &[Place],
+    sources: &'a Sources<'a, T>,
+    rows: &[usize],
 ) -> CellView<'a>
-    ensures { seen_cell result ≡ first_cell (map (λ e. bound_value e (picked relations.now places.now)) parts.now) }
+    ensures { seen_cell result ≡ first_cell (map (λ e. bound_value e (picked sources.now rows.now)) parts.now) }
 {
     for part in parts {
-        let cell = value(part, relations, places);
+        let cell = value(part, sources, rows);
         if !is_null(cell) {
             return cell;
         }
@@ -153,26 +151,26 @@ fn first_of<'a, T: TableSet>(
 #[cycle(value)]
 fn case_of<'a, T: TableSet>(
     branches: &'a [BoundBranch],
-    relations: &'a Relations<'a, T>,
-    places: &[Place],
+    sources: &'a Sources<'a, T>,
+    rows: &[usize],
 ) -> Option<CellView<'a>>
-    ensures { seen_option result ≡ taken (picked relations.now places.now) branches.now }
+    ensures { seen_option result ≡ taken (picked sources.now rows.now) branches.now }
 {
     for branch in branches {
-        if is_true(value(&branch.test, relations, places)) {
-            return Some(value(&branch.value, relations, places));
+        if is_true(value(&branch.test, sources, rows)) {
+            return Some(value(&branch.value, sources, rows));
         }
     }
     None
 }
 
-/// Whether an expression over the rows at these places is true.
+/// Whether an expression over the rows with these numbers is true.
 pub fn value_is_true<'a, T: TableSet>(
     expression: &'a BoundExpr,
-    relations: &'a Relations<'a, T>,
-    places: &[Place],
+    sources: &'a Sources<'a, T>,
+    rows: &[usize],
 ) -> bool
-    ensures { result ≡ is_true (bound_value expression.now (picked relations.now places.now)) }
+    ensures { result ≡ is_true (bound_value expression.now (picked sources.now rows.now)) }
 {
-    is_true(value(expression, relations, places))
+    is_true(value(expression, sources, rows))
 }

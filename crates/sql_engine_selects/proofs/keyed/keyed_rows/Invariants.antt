@@ -1,6 +1,6 @@
-use Rattle.std.proofs.Common.{◌≡◌, map}
+use Rattle.std.proofs.Common.{◌≡◌, map, take}
 use Rattle.sql_engine_selects.specs.KeyedRows.{keyed}
 use Rattle.sql_engine_selects.proofs.keyed.keyed_rows.Given as goal
 
-abbrev pub invariant-rows : goal.invariant-rows
-invariant-rows g l = l.all.items ≡ map (keyed l.relations l.keys) l.yielded
+abbrev pub invariant-loop-row : goal.invariant-loop-row
+invariant-loop-row g l = l.all.items ≡ map (keyed l.sources l.rows l.keys) (take l.row-index l.order)

@@ -4,4 +4,4 @@ use Rattle.sql_engine_values.specs.Places.{picked}
 use Rattle.sql_engine_selects.proofs.shown.shown_row.Given as goal
 
 abbrev pub invariant-loop-item : goal.invariant-loop-item
-invariant-loop-item g l = l.cells.items ≡ bound_item_cells (take l.item-index l.items) (picked l.relations l.places)
+invariant-loop-item g l = l.cells.items ≡ bound_item_cells (take l.item-index l.items) (picked l.sources l.row)

@@ -7,18 +7,18 @@ use Rattle.sql_engine_values.proofs.values.+value.Given as goal
 
 abbrev pub invariant-all_of-loop-part : goal.invariant-all_of-loop-part
 invariant-all_of-loop-part g l =
-    all_cells (map (λ e. bound_value e (picked l.relations l.places)) l.parts)
-    ≡ and_cells (known l.so_far) (all_cells (map (λ e. bound_value e (picked l.relations l.places)) (drop l.part-index l.parts)))
+    all_cells (map (λ e. bound_value e (picked l.sources l.rows)) l.parts)
+    ≡ and_cells (known l.so_far) (all_cells (map (λ e. bound_value e (picked l.sources l.rows)) (drop l.part-index l.parts)))
 
 abbrev pub invariant-any_of-loop-part : goal.invariant-any_of-loop-part
 invariant-any_of-loop-part g l =
-    any_cells (map (λ e. bound_value e (picked l.relations l.places)) l.parts)
-    ≡ or_cells (known l.so_far) (any_cells (map (λ e. bound_value e (picked l.relations l.places)) (drop l.part-index l.parts)))
+    any_cells (map (λ e. bound_value e (picked l.sources l.rows)) l.parts)
+    ≡ or_cells (known l.so_far) (any_cells (map (λ e. bound_value e (picked l.sources l.rows)) (drop l.part-index l.parts)))
 
 abbrev pub invariant-case_of-loop-branch : goal.invariant-case_of-loop-branch
-invariant-case_of-loop-branch g l = taken (picked l.relations l.places) l.branches ≡ taken (picked l.relations l.places) (drop l.branch-index l.branches)
+invariant-case_of-loop-branch g l = taken (picked l.sources l.rows) l.branches ≡ taken (picked l.sources l.rows) (drop l.branch-index l.branches)
 
 abbrev pub invariant-first_of-loop-part : goal.invariant-first_of-loop-part
 invariant-first_of-loop-part g l =
-    first_cell (map (λ e. bound_value e (picked l.relations l.places)) l.parts)
-    ≡ first_cell (map (λ e. bound_value e (picked l.relations l.places)) (drop l.part-index l.parts))
+    first_cell (map (λ e. bound_value e (picked l.sources l.rows)) l.parts)
+    ≡ first_cell (map (λ e. bound_value e (picked l.sources l.rows)) (drop l.part-index l.parts))

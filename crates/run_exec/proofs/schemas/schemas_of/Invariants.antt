@@ -1,6 +1,0 @@
-use Rattle.std.proofs.Common.{◌≡◌, ◌++◌, drop}
-use Rattle.sql_rows_meaning.specs.Scopes.{schemas_in}
-use Rattle.run_exec.proofs.schemas.schemas_of.Given as goal
-
-abbrev pub invariant-loop-t : goal.invariant-loop-t
-invariant-loop-t l = l.schemas.items ++ schemas_in (drop l.t l.tables) ≡ schemas_in l.tables

@@ -1,0 +1,3 @@
+pub mod SchemaSteps
+pub mod Bound
+pub mod Again

@@ -1,0 +1,4 @@
+pub mod TableCells
+pub mod Level
+pub mod Picking
+pub mod Stays

@@ -16,7 +16,7 @@ use Rattle.query_plan_meaning.specs.declared.star.Star.{Star}
 use Rattle.query_plan_meaning.specs.declared.star.StarBody.{StarBody}
 use Rattle.query_plan_meaning.specs.declared.star.StarBody.TheVariants.{Both, Either}
 use Rattle.query_plan_meaning.specs.declared.plan.Plan.{Plan}
-use Rattle.query_plan_meaning.specs.Stars.{plan_solutions, arms_of}
+use Rattle.query_plan_meaning.specs.Stars.{plan_solutions, arms_of, star_in_width}
 
 -- ---- expressions
 
@@ -88,10 +88,12 @@ every_leaf {L} fits = fold-Tree L Bool (every_leaf_step fits)
 
 -- ---- the plan of a query
 
--- the query's names, modifiers and expressions, stars that fit, and the query's solutions over every set of triples
+-- the query's names, modifiers and expressions, stars that fit, variables that there are, and the query's solutions over every
+-- set of triples
 pub record ComesFrom (q : Query) (plan : Plan) : Type 0 where
   pub names : plan.names ≡ q.names
   pub modifiers : plan.modifiers ≡ q.modifiers
   pub expressions : expressions_of plan.tree ≡ expressions_of q.tree
   pub fits : every_leaf leaf_fits plan.tree ≡ true
+  pub in_width : every_leaf (list_all star_in_width) plan.tree ≡ true
   pub solutions : (g : List RdfTriple) → IsDistinct same_triple g → SameBag (plan_solutions plan.tree g) (solutions q.tree g)

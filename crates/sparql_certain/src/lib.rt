@@ -3,8 +3,10 @@
 
 mod leaf_vars;
 mod patterns;
+mod stars;
 mod trees;
 
 pub use leaf_vars::LeafVars;
+pub use patterns::{variables, with_pattern};
 pub use sparql_variables::VarSet;
 pub use trees::certain;

@@ -12,7 +12,7 @@ use sqlite_items::Items;
 
 // The set with a slot's variable besides.
 #[tactic(auto, using(crate::specs::Patterns::slot_laws))]
-fn with_slot(set: &VarSet, slot: &Slot) -> VarSet
+pub(crate) fn with_slot(set: &VarSet, slot: &Slot) -> VarSet
     ensures { Adds set.now (λ v. is_variable v slot.now) result }
 {
     match slot {
@@ -21,8 +21,9 @@ fn with_slot(set: &VarSet, slot: &Slot) -> VarSet
     }
 }
 
+/// The set with a pattern's variables besides.
 #[tactic(auto, using(crate::specs::Patterns::pattern_laws))]
-fn with_pattern(set: &VarSet, pattern: &Pattern) -> VarSet
+pub fn with_pattern(set: &VarSet, pattern: &Pattern) -> VarSet
     ensures { Adds set.now (λ v. in_pattern v pattern.now) result }
 {
     let subject = with_slot(set, &pattern.s);
@@ -30,8 +31,9 @@ fn with_pattern(set: &VarSet, pattern: &Pattern) -> VarSet
     with_slot(&predicate, &pattern.o)
 }
 
+/// The variables of patterns.
 #[tactic(auto, using(crate::specs::Patterns::list_laws))]
-fn variables(patterns: &[Pattern]) -> VarSet
+pub fn variables(patterns: &[Pattern]) -> VarSet
     ensures { Has result (pattern_variables patterns.now) }
 {
     let mut set = VarSet::empty();

@@ -2,3 +2,4 @@ pub mod AnyNode
 pub mod Counted
 pub mod Levels
 pub mod Shapes
+pub mod TreeVariables

@@ -1,0 +1,4 @@
+mod Shares
+mod Ranks
+mod Choosing
+mod Taking

@@ -1,0 +1,4 @@
+pub mod Greedy
+pub mod Leaves
+pub mod Planned
+pub mod Costs

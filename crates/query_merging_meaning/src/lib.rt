@@ -1,0 +1,2 @@
+//! What a merged plan is, and how often a plan looks at a primary table.
+#![tactic(auto)]

@@ -1,0 +1,4 @@
+mod Forms
+mod Putting
+mod ByKind
+mod Counted

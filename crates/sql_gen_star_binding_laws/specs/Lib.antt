@@ -1,0 +1,2 @@
+pub mod StarColumns
+pub mod StarSchemas

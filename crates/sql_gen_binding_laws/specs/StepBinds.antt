@@ -6,7 +6,6 @@ use Rattle.std.proofs.lemmas.Slice.Eq.{bytes_eq-Decides}
 use Rattle.std.specs.Prelude.{◌+◌}
 use Rattle.sql_rows_meaning.specs.Faults.{in_select}
 use Rattle.std.specs.List.{list_any, list_all, filter, AllByRecursion}
-use Rattle.query_eval_meaning.specs.Eval.{join}
 use Rattle.sql_rows_meaning.specs.Faults.{found, Checked, and_then, all_fine}
 use Rattle.sql_meaning.specs.declared.script.JoinTo.{JoinTo}
 use Rattle.sql_meaning.specs.declared.expression.SqlExpr.{SqlExpr}

@@ -1,2 +1,1 @@
 pub mod StepsBind
-pub mod Further

@@ -1,5 +1,4 @@
-//! Steps behind steps bind. Each law is the contract of a function that does nothing: proofs above cite the laws, and the
-//! functions show that they are proved.
+//! Steps behind steps bind. The functions without a body are laws.
 #![tactic(auto)]
 
 mod chains;

@@ -1,7 +1,6 @@
-//! Laws of steps behind steps. Each law is the contract of a function that does nothing: proofs above cite the laws, and
-//! the functions show that they are proved.
+//! Laws of steps behind steps. The functions without a body are laws.
 #![tactic(auto)]
 
 mod chains;
 
-pub use chains::{both_sides_go_on, one_side_goes_on, renamed_bodies_mean_the_same};
+pub use chains::{both_sides_go_on, one_side_goes_on};

@@ -1,7 +1,7 @@
-//! The last SELECT of a compiled query binds. The law is the contract of a function that does nothing: proofs above cite
-//! the law, and the function shows that it is proved.
+//! The last SELECT of a compiled query binds, and so does the step of DISTINCT before it. Each law is the contract of a
+//! function that does nothing: proofs above cite the laws, and the functions show that they are proved.
 #![tactic(auto)]
 
 mod last;
 
-pub use last::last_binds;
+pub use last::{distinct_binds, last_binds, shown_are_few};

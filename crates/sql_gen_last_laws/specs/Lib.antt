@@ -1,4 +1,2 @@
 pub mod LastSelect
-pub mod PlaceOrder
-pub mod Decoded
-pub mod LastRows
+pub mod DistinctSelect

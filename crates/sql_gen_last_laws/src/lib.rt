@@ -4,4 +4,4 @@
 
 mod last;
 
-pub use last::last_rows;
+pub use last::{distinct_answers, distinct_steps, last_rows};

@@ -3,37 +3,36 @@ use Rattle.std.proofs.Common.{◌≡◌, ℕ, ◌⊎◌, Bool, true, false, if�
 use Rattle.std.proofs.lemmas.Bool.{cases_Bool, eq-eqb, eqb-true, or_cases, or_from, or_left, or_right, false_from_ne_true, both_ways}
 use Rattle.std.specs.List.{list_any}
 use Rattle.std.specs.Prelude.{◌+◌}
-use Rattle.query_eval_meaning.specs.Eval.{join}
 use Rattle.sql_meaning.specs.declared.script.JoinTo.{JoinTo}
 use Rattle.sql_meaning.specs.declared.expression.SqlExpr.{SqlExpr}
 use Rattle.sql_gen_step_laws.specs.Carried.{Name, column, one}
 use Rattle.sql_gen_step_laws.specs.StepSelects.{left_alias, right_alias, cell_of, every, has, shared_sql, shared, merged_sql, one_item, variable_item, both, own_sql, project_core}
 use Rattle.sql_gen_step_laws.specs.Lookups.{same_column, one_column}
-use Rattle.sql_gen_term_laws.specs.TermTable.{term_joins}
+use Rattle.sql_gen_term_laws.specs.TermTable.{id_name, number_test, no_test, term_alias, term_joins}
 use Rattle.sql_rows_meaning.specs.Faults.{and_then, in_select}
 use Rattle.sql_rows_meaning.specs.Scopes.{Scope, Schemas, kind_under, Seen}
 use Rattle.sql_rows_meaning.specs.Checks.{all_truths, check, check_truth}
-use Rattle.sql_rows_meaning.specs.CheckLaws.{check-Int, check-Null, check-All, check-Any}
+use Rattle.sql_rows_meaning.specs.CheckLaws.{check-Int, check-All, check-Any}
 use Rattle.sql_rows_meaning.specs.Binding.{check_source, check_from, check_join, check_joins, check_items, check_like, check_select, check_others, check_body}
 use Rattle.std.specs.Prelude.{Ok}
 use Rattle.sql_gen_binding_laws.specs.StepColumns.{int_column, step_schema, Once, term_schema, TermsSeen, scope_with}
 use Rattle.sql_gen_binding_laws.specs.StepBinds.{then_fine, name_fine, equal_fine, own_fine, kind_in_step, step_items, null_fine, tests_fine, every_fine, each_made, shared_fine, first_fine, in_filter, once-both, of_both, column_one, schemas_same}
-use Rattle.sql_gen_binding_laws.specs.TermBinds.{Stays, stays-terms, terms_seen, terms_in_scope, term_joins_fine, other_left, other_right}
-use Rattle.sql_gen_optional_laws.specs.MatchRows.{kept, kept_sql, kept_item, seen_sql, matches_core, unmatched_core, optional_body}
+use Rattle.sql_gen_binding_laws.specs.TermBinds.{Stays, stays-terms, terms_seen, terms_in_scope, number_fine, no_fine, term_joins_fine, other_left, other_right}
+use Rattle.sql_gen_optional_laws.specs.MatchRows.{kept, kept_sql, kept_item, either_test, matches_core, unmatched_core, optional_body}
 use Rattle.sql_gen_optional_laws.specs.OptionalStep.{same_kept}
 use Rattle.sql_gen_optional_binding_laws.specs.MatchColumns.{match_schema}
 use Rattle.sql_meaning.specs.declared.expression.SqlExpr.TheVariants as sql
 use Rattle.table_meaning.specs.declared.kind.Kind.TheVariants as kind
 
-kept_one : (v : ℕ) → bytes_eq (kept v) one ≡ false
+pub kept_one : (v : ℕ) → bytes_eq (kept v) one ≡ false
 unfolding kept
 kept_one v = refl
 
-one_kept : (v : ℕ) → bytes_eq one (kept v) ≡ false
+pub one_kept : (v : ℕ) → bytes_eq one (kept v) ≡ false
 unfolding kept
 one_kept v = refl
 
-kept_column : (w v : ℕ) → bytes_eq (kept w) (column v) ≡ false
+pub kept_column : (w v : ℕ) → bytes_eq (kept w) (column v) ≡ false
 unfolding kept column
 kept_column w v = refl
 
@@ -82,13 +81,17 @@ merged_fine vs ws s mine its u h = go (cases_Bool (has vs u)) (cases_Bool (has w
     go (inr x) (inr y) (inl h) = absurd (both_ways _ x h)
     go (inr x) (inr y) (inr h) = absurd (both_ways _ y h)
 
-seen_fine : (vs ws : List ℕ) (s : Scope) → ((v : ℕ) → has vs v ≡ true → check (cell_of left_alias v) s ≡ Ok kind.Int) → ((v : ℕ) → has ws v ≡ true → check (cell_of right_alias v) s ≡ Ok kind.Int) → (u : ℕ) → check (seen_sql vs ws u) s ≡ Ok kind.Int
-seen_fine vs ws s mine its u = go (cases_Bool (has vs u)) (cases_Bool (has ws u)) (merged_fine vs ws s mine its u)
+either_fine : (vs ws : List ℕ) (s : Scope) → ((v : ℕ) → has vs v ≡ true → check (cell_of left_alias v) s ≡ Ok kind.Int) → ((v : ℕ) → has ws v ≡ true → check (cell_of right_alias v) s ≡ Ok kind.Int) → s left_alias one ≡ Some kind.Int →
+    (u : ℕ) → s (term_alias u) id_name ≡ Some kind.Int → check (either_test vs ws u) s ≡ Ok kind.Truth
+either_fine vs ws s mine its first u own = go (cases_Bool (has vs u)) (cases_Bool (has ws u))
   where
-    go : (has vs u ≡ true) ⊎ (has vs u ≡ false) → (has ws u ≡ true) ⊎ (has ws u ≡ false) → ((has vs u ≡ true) ⊎ (has ws u ≡ true) → check (merged_sql vs ws u) s ≡ Ok kind.Int) → check (seen_sql vs ws u) s ≡ Ok kind.Int
-    go (inl x) y m = ap (λ (b : Bool). check (if b then merged_sql vs ws u else if has ws u then merged_sql vs ws u else sql.Null kind.Int) s) x ∙ m (inl x)
-    go (inr x) (inl y) m = ap₂ (λ (b c : Bool). check (if b then merged_sql vs ws u else if c then merged_sql vs ws u else sql.Null kind.Int) s) x y ∙ m (inr y)
-    go (inr x) (inr y) m = ap₂ (λ (b c : Bool). check (if b then merged_sql vs ws u else if c then merged_sql vs ws u else sql.Null kind.Int) s) x y ∙ check-Null kind.Int s
+    found : (has vs u ≡ true) ⊎ (has ws u ≡ true) → check (number_test (merged_sql vs ws) u) s ≡ Ok kind.Truth
+    found h = number_fine s (merged_sql vs ws) u own (merged_fine vs ws s mine its u h)
+
+    go : (has vs u ≡ true) ⊎ (has vs u ≡ false) → (has ws u ≡ true) ⊎ (has ws u ≡ false) → check (either_test vs ws u) s ≡ Ok kind.Truth
+    go (inl x) y = ap (λ (b : Bool). check (if b then number_test (merged_sql vs ws) u else if has ws u then number_test (merged_sql vs ws) u else no_test u) s) x ∙ found (inl x)
+    go (inr x) (inl y) = ap₂ (λ (b c : Bool). check (if b then number_test (merged_sql vs ws) u else if c then number_test (merged_sql vs ws) u else no_test u) s) x y ∙ found (inr y)
+    go (inr x) (inr y) = ap₂ (λ (b c : Bool). check (if b then number_test (merged_sql vs ws) u else if c then number_test (merged_sql vs ws) u else no_test u) s) x y ∙ no_fine s u own first
 
 pub matches_fine : (schemas : Schemas) (a b terms : Name) (vs ws us certain : List ℕ) → schemas a ≡ Some (step_schema vs) → schemas b ≡ Some (step_schema ws) → schemas terms ≡ Some term_schema → Once vs → Once ws → Once us →
     (condition : SqlExpr) → ((s : Scope) → TermsSeen us s → check condition s ≡ Ok kind.Truth) →
@@ -113,9 +116,9 @@ matches_fine schemas a b terms vs ws us certain ha hb ht ov ow ou condition ok =
     let last : Seen = terms_seen us seen in
     let s : Scope = last.scope in
     let stays : Stays s0 s = stays-terms us seen in
-    let rest : check_joins schemas (term_joins terms (seen_sql vs ws) us) seen ≡ Ok last =
-    term_joins_fine schemas terms ht (seen_sql vs ws) us seen ou (λ u h. or_from _ _ (other_right u) (or_from _ _ (other_left u) refl)) (λ s k u. seen_fine vs ws s (mine s k) (its s k) u) in
-    let joins : check_joins schemas (j ∷ term_joins terms (seen_sql vs ws) us) start ≡ Ok last = then_fine (check_join schemas j start) seen (check_joins schemas (term_joins terms (seen_sql vs ws) us)) join ∙ rest in
+    let rest : check_joins schemas (term_joins terms (either_test vs ws) us) seen ≡ Ok last =
+    term_joins_fine schemas terms ht (either_test vs ws) us seen ou (λ u h. or_from _ _ (other_right u) (or_from _ _ (other_left u) refl)) (λ s k. either_fine vs ws s (mine s k) (its s k) (k.left one)) in
+    let joins : check_joins schemas (j ∷ term_joins terms (either_test vs ws) us) start ≡ Ok last = then_fine (check_join schemas j start) seen (check_joins schemas (term_joins terms (either_test vs ws) us)) join ∙ rest in
     let both_items : check_items s (one ∷ []) (map (variable_item (merged_sql vs ws)) (both vs ws) ++ map kept_item vs) ≡ Ok (map (λ v. int_column (column v)) (both vs ws) ++ map (λ v. int_column (kept v)) vs) =
     match_items s (merged_sql vs ws) (both vs ws) vs (one ∷ []) (λ u h. merged_fine vs ws s (mine s stays) (its s stays) u (of_both vs ws u h)) (mine s stays) (once-both vs ws ov ow) ov (λ u h. or_from _ _ (column_one u) refl) (λ v h. or_from _ _ (kept_one v) refl) in
     let items : check_items s [] (one_item ∷ map (variable_item (merged_sql vs ws)) (both vs ws) ++ map kept_item vs) ≡ Ok (match_schema vs (both vs ws)) = rw (check-Int (pos 1) s, both_items) refl in
@@ -124,7 +127,7 @@ matches_fine schemas a b terms vs ws us certain ha hb ht ov ow ou condition ok =
 
 -- ---- the rest
 
-column_in : (vs us : List ℕ) (v : ℕ) → has us v ≡ true → kind_under (map (λ v. int_column (column v)) us ++ map (λ v. int_column (kept v)) vs) (column v) ≡ Some kind.Int
+pub column_in : (vs us : List ℕ) (v : ℕ) → has us v ≡ true → kind_under (map (λ v. int_column (column v)) us ++ map (λ v. int_column (kept v)) vs) (column v) ≡ Some kind.Int
 column_in vs [] v e = cc
 column_in vs (w ∷ us) v e = go (cases_Bool (w == v)) (or_cases (w == v) (has us v) e) (column_in vs us v)
   where
@@ -144,7 +147,7 @@ kept_alone (w ∷ vs) v e = go (cases_Bool (w == v)) (or_cases (w == v) (has vs 
     go (inr q) (inl h) r = cc
     go (inr q) (inr h) r = rw (same_kept w v, q) (r h)
 
-kept_in : (vs us : List ℕ) (v : ℕ) → has vs v ≡ true → kind_under (map (λ v. int_column (column v)) us ++ map (λ v. int_column (kept v)) vs) (kept v) ≡ Some kind.Int
+pub kept_in : (vs us : List ℕ) (v : ℕ) → has vs v ≡ true → kind_under (map (λ v. int_column (column v)) us ++ map (λ v. int_column (kept v)) vs) (kept v) ≡ Some kind.Int
 kept_in vs [] v e = kept_alone vs v e
 kept_in vs (u ∷ us) v e = rw (column_kept u v) (kept_in vs us v e)
 

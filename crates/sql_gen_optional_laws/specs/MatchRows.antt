@@ -1,7 +1,6 @@
 -- The two steps of an optional join with a condition.
 use Rattle.std.specs.Prelude.{◌≡◌, ℕ, ◌+◌, ◌/◌, ◌%◌, Bool, true, false, if◌then◌else◌, List, [], ◌∷◌, ◌++◌, map, Some, None}
 use Rattle.std.specs.List.{AllByRecursion}
-use Rattle.query_eval_meaning.specs.Mapping.{either}
 use Rattle.rdf_meaning.specs.Terms.{RdfTerm}
 use Rattle.bags.specs.Bag.{SameBag}
 use Rattle.table_meaning.specs.declared.cell.Cell.{Cell}
@@ -12,18 +11,17 @@ use Rattle.sql_meaning.specs.declared.expression.SqlExpr.{SqlExpr}
 use Rattle.sql_rows_meaning.specs.Tables.{Relation}
 use Rattle.sql_gen_step_laws.specs.Carried.{Name, column, one, Ids, id_cell, carry, Over}
 use Rattle.sql_gen_step_laws.specs.StepSelects.{left_alias, right_alias, cell_of, every, has, shared_sql, shared, merged_sql, one_item, variable_item, both, own_sql, project_core}
-use Rattle.sql_gen_term_laws.specs.TermTable.{term_joins}
+use Rattle.sql_gen_term_laws.specs.TermTable.{number_test, no_test, term_joins}
 use Rattle.query_eval_meaning.specs.Matches.{Match}
 use Rattle.sql_meaning.specs.declared.expression.SqlExpr.TheVariants as sql
-use Rattle.table_meaning.specs.declared.kind.Kind.TheVariants as kind
 
 -- the column of a variable of the left side: w and two digits
 unfoldable pub kept : ℕ → Name
 kept v = 119 ∷ (48 + v / 10) ∷ (48 + v % 10) ∷ []
 
--- the cell of a variable of either side, or null
-abbrev pub seen_sql : List ℕ → List ℕ → ℕ → SqlExpr
-seen_sql vs ws v = if has vs v then merged_sql vs ws v else if has ws v then merged_sql vs ws v else sql.Null kind.Int
+-- the row of the number that either side has for a variable, or none where neither has a column for it
+abbrev pub either_test : List ℕ → List ℕ → ℕ → SqlExpr
+either_test vs ws v = if has vs v then number_test (merged_sql vs ws) v else if has ws v then number_test (merged_sql vs ws) v else no_test v
 
 abbrev pub kept_item : ℕ → Item
 kept_item v = record { expr = cell_of left_alias v; name = kept v }
@@ -34,7 +32,7 @@ matches_core a b terms vs ws us certain condition = record {
   distinct = false;
   items = one_item ∷ map (variable_item (merged_sql vs ws)) (both vs ws) ++ map kept_item vs;
   from = Some (record { table = a; alias = left_alias });
-  joins = record { left = false; source = record { table = b; alias = right_alias }; on = every (map (shared_sql certain) (shared vs ws)) } ∷ term_joins terms (seen_sql vs ws) us;
+  joins = record { left = false; source = record { table = b; alias = right_alias }; on = every (map (shared_sql certain) (shared vs ws)) } ∷ term_joins terms (either_test vs ws) us;
   condition = Some condition;
   keys = [];
   most = None;

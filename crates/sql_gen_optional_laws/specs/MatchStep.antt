@@ -1,8 +1,8 @@
 -- The pairs that fit and of which the condition is true.
-use Rattle.std.proofs.Common.{◌≡◌, ℕ, ◌+◌, ◌⊎◌, Bool, true, false, cond, if◌then◌else◌, List, [], ◌∷◌, ◌++◌, map, sym, refl, ap, ap₂, ◌∙◌, inl, inr, pos}
+use Rattle.std.proofs.Common.{◌≡◌, ℕ, ◌⊎◌, Bool, true, false, cond, if◌then◌else◌, List, [], ◌∷◌, ◌++◌, map, sym, refl, ap, ap₂, ◌∙◌, inl, inr, pos}
 use Rattle.std.proofs.lemmas.Bool.{cases_Bool}
 use Rattle.std.proofs.lemmas.List.{map-append}
-use Rattle.std.specs.List.{filter, flat_map, list_all, AllByRecursion}
+use Rattle.std.specs.List.{filter, flat_map, AllByRecursion}
 use Rattle.query_eval_meaning.specs.Expressions.{Truth as Truth3, is_true as holds}
 use Rattle.query_eval_meaning.specs.Mapping.{Mapping, agree, compatible, merge}
 use Rattle.query_eval_meaning.specs.Eval.{found}
@@ -16,20 +16,19 @@ use Rattle.sql_rows_meaning.specs.Values.{Sight, value_of, is_true, first_cell}
 use Rattle.sql_rows_meaning.specs.Tables.{Relations}
 use Rattle.sql_rows_meaning.specs.Sources.{with_row, nothing_in_sight, all_joined}
 use Rattle.sql_rows_meaning.specs.Selects.{item_cells}
-use Rattle.sql_rows_meaning.specs.ValueLaws.{value_of-Name, value_of-First, value_of-Int, value_of-Null}
+use Rattle.sql_rows_meaning.specs.ValueLaws.{value_of-Name, value_of-First, value_of-Int}
 use Rattle.sql_gen_step_laws.specs.Carried.{Name, column, one, Ids, id_cell, carry, columns_of, Over, Numbers, Carries, Binds, select_table}
 use Rattle.sql_gen_step_laws.specs.PlainSelects.{plain_rows}
 use Rattle.sql_gen_step_laws.specs.StepSelects.{left_alias, right_alias, cell_of, every, has, shared_sql, shared, merged_sql, one_item, variable_item, both}
 use Rattle.sql_gen_step_laws.specs.StepTests.{pair_env, carried_env, every_true, shared_true, merged_value, compatible_is, value-left}
 use Rattle.sql_gen_step_laws.specs.JoinStep.{total-carried, list_all-map, item_columns, merge-over, Both, each-both}
-use Rattle.sql_gen_term_laws.specs.TermTable.{HasTerms, term_joins, with_terms}
-use Rattle.sql_gen_term_laws.specs.TermChain.{Keeps, keeps-terms, Sees, terms-chain, shows_terms}
+use Rattle.sql_gen_term_laws.specs.TermTable.{term_columns, HasTerms, number_test, no_test, term_alias, term_joins, with_terms}
+use Rattle.sql_gen_term_laws.specs.TermJoin.{has_term_of}
+use Rattle.sql_gen_term_laws.specs.TermChain.{Keeps, keeps-trans, keeps-term, keeps-terms, Finds, number-finds, no-finds, terms-chain, shows_terms}
 use Rattle.sql_gen_term_laws.specs.Filters.{Means}
 use Rattle.sql_gen_term_laws.specs.FilterStep.{holds_is}
 use Rattle.query_eval_meaning.specs.Matches.{Match, matches_of}
-use Rattle.sql_gen_optional_laws.specs.MatchRows.{kept, seen_sql, kept_item, matches_core, match_cells, OverBoth, Matches}
-use Rattle.sql_meaning.specs.declared.expression.SqlExpr.TheVariants as sql
-use Rattle.table_meaning.specs.declared.kind.Kind.TheVariants as kind
+use Rattle.sql_gen_optional_laws.specs.MatchRows.{kept, either_test, kept_item, matches_core, match_cells, OverBoth, Matches}
 
 -- a mapping of each side
 pub record Two : Type 0 where
@@ -60,13 +59,23 @@ kept_value vs ws v env env' k = go (cases_Bool (has vs v)) (cases_Bool (has ws v
 merged_seen : (ids : Ids) (known : RdfTerm → Bool) (vs ws : List ℕ) (x y : Mapping) → Over vs known x → Over ws known y → (env : Sight) → Keeps (carried_env ids vs ws x y) env → (v : ℕ) → value_of (merged_sql vs ws v) env ≡ id_cell ids (merge x y v)
 merged_seen ids known vs ws x y f g env k v = kept_value vs ws v (carried_env ids vs ws x y) env k ∙ merged_value ids known vs ws x y f g v
 
-either_seen : (ids : Ids) (known : RdfTerm → Bool) (vs ws : List ℕ) (x y : Mapping) → Over vs known x → Over ws known y → (env : Sight) → Keeps (carried_env ids vs ws x y) env → (v : ℕ) → value_of (seen_sql vs ws v) env ≡ id_cell ids (merge x y v)
-either_seen ids known vs ws x y f g env k v = go (cases_Bool (has vs v)) (cases_Bool (has ws v)) (merged_seen ids known vs ws x y f g env k v)
+-- the row of the number that either side has
+either-finds : (ids : Ids) (known : RdfTerm → Bool) (vs ws : List ℕ) (x y : Mapping) → Over vs known x → Over ws known y → (env : Sight) → Keeps (carried_env ids vs ws x y) env → (v : ℕ) (row : List Cell) →
+    is_true (value_of (either_test vs ws v) (with_row (term_alias v) term_columns row env)) ≡ has_term_of ids (merge x y v) row
+either-finds ids known vs ws x y f g env k v row = go (cases_Bool (has vs v)) (cases_Bool (has ws v))
   where
-    go : (has vs v ≡ true) ⊎ (has vs v ≡ false) → (has ws v ≡ true) ⊎ (has ws v ≡ false) → value_of (merged_sql vs ws v) env ≡ id_cell ids (merge x y v) → value_of (seen_sql vs ws v) env ≡ id_cell ids (merge x y v)
-    go (inl e) h m = ap (λ (b : Bool). value_of (if b then merged_sql vs ws v else if has ws v then merged_sql vs ws v else sql.Null kind.Int) env) e ∙ m
-    go (inr e) (inl h) m = ap₂ (λ (b c : Bool). value_of (if b then merged_sql vs ws v else if c then merged_sql vs ws v else sql.Null kind.Int) env) e h ∙ m
-    go (inr e) (inr h) m = ap₂ (λ (b c : Bool). value_of (if b then merged_sql vs ws v else if c then merged_sql vs ws v else sql.Null kind.Int) env) e h ∙ value_of-Null kind.Int env ∙ rw (f.bound v e, g.bound v h) refl
+    next : Sight
+    next = with_row (term_alias v) term_columns row env
+
+    found : is_true (value_of (number_test (merged_sql vs ws) v) next) ≡ has_term_of ids (merge x y v) row
+    found = number-finds ids (merge x y) (merged_sql vs ws) v row env (merged_seen ids known vs ws x y f g next (keeps-trans (carried_env ids vs ws x y) env next k (keeps-term v term_columns row env)) v)
+
+    go : (has vs v ≡ true) ⊎ (has vs v ≡ false) → (has ws v ≡ true) ⊎ (has ws v ≡ false) → is_true (value_of (either_test vs ws v) next) ≡ has_term_of ids (merge x y v) row
+    go (inl e) h = ap (λ (b : Bool). is_true (value_of (if b then number_test (merged_sql vs ws) v else if has ws v then number_test (merged_sql vs ws) v else no_test v) next)) e ∙ found
+    go (inr e) (inl h) = ap₂ (λ (b c : Bool). is_true (value_of (if b then number_test (merged_sql vs ws) v else if c then number_test (merged_sql vs ws) v else no_test v) next)) e h ∙ found
+    go (inr e) (inr h) =
+        ap₂ (λ (b c : Bool). is_true (value_of (if b then number_test (merged_sql vs ws) v else if c then number_test (merged_sql vs ws) v else no_test v) next)) e h
+        ∙ no-finds ids v row next ∙ rw (f.bound v e, g.bound v h) refl
 
 -- each part over its own variables
 pub record OverTwo (vs ws : List ℕ) (known : RdfTerm → Bool) (p : Two) : Type 0 where
@@ -82,9 +91,9 @@ over_fitting known vs ws ls rs f g =
     (each-weaker (Over ws known) (λ y. P (record { left = x; right = y })) (λ y gy. record { left = fx; right = gy }) (filter (compatible x) rs) (each-filter (Over ws known) (compatible x) rs g)))
     ls f)
 
-sees_two : (ids : Ids) (known : RdfTerm → Bool) (vs ws : List ℕ) (p : Two) → OverTwo vs ws known p → Sees (seen_sql vs ws) ids known (joined p) (carried_env ids vs ws p.left p.right)
-sees_two ids known vs ws p o = record {
-  sees = either_seen ids known vs ws p.left p.right o.left o.right;
+finds_two : (ids : Ids) (known : RdfTerm → Bool) (vs ws : List ℕ) (p : Two) → OverTwo vs ws known p → Finds (either_test vs ws) ids known (joined p) (carried_env ids vs ws p.left p.right)
+finds_two ids known vs ws p o = record {
+  finds = either-finds ids known vs ws p.left p.right o.left o.right;
   knows_terms = (merge-over known vs ws p.left p.right o.left o.right).known_terms;
 }
 
@@ -173,13 +182,13 @@ match_step ids known n relations a b terms st vs ws us certain ls rs ca cb bl br
         let on = every (map (shared_sql certain) (shared vs ws)) in
         let f : Mapping → Bool = λ m. holds (truth m) in
         let start = flat_map (λ env. filter (λ e. is_true (value_of on e)) (map (λ rb. with_row right_alias (relations b).columns rb env) (relations b).rows)) (map (λ ra. with_row left_alias (relations a).columns ra nothing_in_sight) (relations a).rows) in
-        let envs = all_joined relations (term_joins terms (seen_sql vs ws) us) start in
+        let envs = all_joined relations (term_joins terms (either_test vs ws) us) start in
         let E : Two → Sight = λ p. carried_env ids vs ws p.left p.right in
         let env : Two → Sight = λ p. with_terms ids us (joined p) (E p) in
         let over = over_fitting known vs ws ls rs ca.fits cb.fits in
         let bag : SameBag envs (map env (fitting ls rs)) =
-        terms-chain joined relations terms ids known st (seen_sql vs ws) us (fitting ls rs) start E
-        (each-weaker (OverTwo vs ws known) (λ p. Sees (seen_sql vs ws) ids known (joined p) (E p)) (sees_two ids known vs ws) (fitting ls rs) over)
+        terms-chain joined relations terms ids known st (either_test vs ws) us (fitting ls rs) start E
+        (each-weaker (OverTwo vs ws known) (λ p. Finds (either_test vs ws) ids known (joined p) (E p)) (finds_two ids known vs ws) (fitting ls rs) over)
         (pairs_in_sight ids known n relations a b vs ws certain ls rs ca cb bl br) in
         ap (total g) (plain_rows relations (matches_core a b terms vs ws us certain condition) refl refl refl refl)
         ∙ total-map g (item_cells items) (filter (λ e. is_true (value_of condition e)) envs)

@@ -7,7 +7,7 @@ use Rattle.sql_gen_step_laws.specs.StepTests.{same_number, same_bools}
 use Rattle.std.specs.Ordering.{int_eq}
 use Rattle.sql_gen_step_laws.specs.PlainSelects.{plain_rows}
 use Rattle.query_eval_meaning.specs.Mapping.{Mapping, width, compatible, merge}
-use Rattle.query_eval_meaning.specs.Eval.{left_join, or_alone, found}
+use Rattle.query_eval_meaning.specs.Eval.{left_join, or_alone}
 use Rattle.rdf_meaning.specs.Terms.{RdfTerm}
 use Rattle.bags.specs.Bag.{total}
 use Rattle.bags.specs.BagLaws.{total-same, total-map, total-flat_map, total-filter, total-each, each-append, each-map, each-flat_map, each-weaker, each-filter, total-append, total-zero}
@@ -82,10 +82,10 @@ cell_under_past : (ids : Ids) (us : List ℕ) (m : Mapping) (v : ℕ) (ks : List
 cell_under_past ids [] m v ks cs = refl
 cell_under_past ids (u ∷ us) m v ks cs = rw (column_kept u v) (cell_under_past ids us m v ks cs)
 
-merged_at : (ids : Ids) (vs us : List ℕ) (q : Match) (v : ℕ) → has us v ≡ true → cell_under (match_columns vs us) (match_cells ids vs us q) (column v) ≡ id_cell ids (q.merged v)
+pub merged_at : (ids : Ids) (vs us : List ℕ) (q : Match) (v : ℕ) → has us v ≡ true → cell_under (match_columns vs us) (match_cells ids vs us q) (column v) ≡ id_cell ids (q.merged v)
 merged_at ids vs us q v h = rw (one_column v) (cell_under_own column same_column ids us q.merged v (map kept vs) (map (λ v. id_cell ids (q.left v)) vs) h)
 
-kept_at : (ids : Ids) (vs us : List ℕ) (q : Match) (v : ℕ) → has vs v ≡ true → cell_under (match_columns vs us) (match_cells ids vs us q) (kept v) ≡ id_cell ids (q.left v)
+pub kept_at : (ids : Ids) (vs us : List ℕ) (q : Match) (v : ℕ) → has vs v ≡ true → cell_under (match_columns vs us) (match_cells ids vs us q) (kept v) ≡ id_cell ids (q.left v)
 kept_at ids vs us q v h =
     rw (one_kept v) (cell_under_past ids us q.merged v (map kept vs) (map (λ v. id_cell ids (q.left v)) vs)
     ∙ ap₂ (λ (ks : List Name) (cs : List Cell). cell_under ks cs (kept v)) (sym (append-nil (map kept vs))) (sym (append-nil (map (λ v. id_cell ids (q.left v)) vs)))
@@ -93,17 +93,17 @@ kept_at ids vs us q v h =
 
 -- ---- the matches, with the columns of both sides
 
-abbrev match_env : Ids → List ℕ → List ℕ → Match → Sight
+abbrev pub match_env : Ids → List ℕ → List ℕ → Match → Sight
 match_env ids vs us q = with_row left_alias (match_columns vs us) (match_cells ids vs us q) nothing_in_sight
 
-shown_value : (ids : Ids) (known : RdfTerm → Bool) (vs us : List ℕ) (q : Match) → Over us known q.merged → (v : ℕ) → value_of (own_sql us v) (match_env ids vs us q) ≡ id_cell ids (q.merged v)
+pub shown_value : (ids : Ids) (known : RdfTerm → Bool) (vs us : List ℕ) (q : Match) → Over us known q.merged → (v : ℕ) → value_of (own_sql us v) (match_env ids vs us q) ≡ id_cell ids (q.merged v)
 shown_value ids known vs us q f v = go (cases_Bool (has us v))
   where
     go : (has us v ≡ true) ⊎ (has us v ≡ false) → value_of (own_sql us v) (match_env ids vs us q) ≡ id_cell ids (q.merged v)
     go (inl e) = rw e (value_of-Name left_alias (column v) (match_env ids vs us q) ∙ merged_at ids vs us q v e)
     go (inr e) = rw (e, f.bound v e) (value_of-Null kind.Int (match_env ids vs us q))
 
-shown_cells : (ids : Ids) (known : RdfTerm → Bool) (vs us ts : List ℕ) (q : Match) → Over us known q.merged → item_cells (map (variable_item (own_sql us)) ts) (match_env ids vs us q) ≡ map (λ v. id_cell ids (q.merged v)) ts
+pub shown_cells : (ids : Ids) (known : RdfTerm → Bool) (vs us ts : List ℕ) (q : Match) → Over us known q.merged → item_cells (map (variable_item (own_sql us)) ts) (match_env ids vs us q) ≡ map (λ v. id_cell ids (q.merged v)) ts
 shown_cells ids known vs us [] q f = refl
 shown_cells ids known vs us (t ∷ ts) q f = ap₂ (λ (c : Cell) (cs : List Cell). c ∷ cs) (shown_value ids known vs us q f t) (shown_cells ids known vs us ts q f)
 

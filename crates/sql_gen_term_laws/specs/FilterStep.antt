@@ -18,7 +18,7 @@ use Rattle.sql_gen_step_laws.specs.PlainSelects.{plain_rows}
 use Rattle.sql_gen_step_laws.specs.StepSelects.{left_alias, one_item, variable_item, own_sql}
 use Rattle.sql_gen_step_laws.specs.JoinStep.{item_columns}
 use Rattle.sql_gen_step_laws.specs.UnionStep.{lone_env}
-use Rattle.sql_gen_term_laws.specs.TermTable.{HasTerms, term_joins, with_terms}
+use Rattle.sql_gen_term_laws.specs.TermTable.{HasTerms, own_test, term_joins, with_terms}
 use Rattle.sql_gen_term_laws.specs.TermChain.{Keeps, keeps-terms, own_seen, own_terms, shows_terms}
 use Rattle.sql_gen_term_laws.specs.Filters.{filter_core, Means, truth_cell}
 
@@ -41,7 +41,7 @@ filter_step ids known relations a terms st vs us ms c condition truth means = re
   rows = record {
     totals = λ g.
         let items = one_item ∷ map (variable_item (own_sql vs)) vs in
-        let envs = all_joined relations (term_joins terms (own_sql vs) us) (map (λ row. with_row left_alias (relations a).columns row nothing_in_sight) (relations a).rows) in
+        let envs = all_joined relations (term_joins terms (own_test vs) us) (map (λ row. with_row left_alias (relations a).columns row nothing_in_sight) (relations a).rows) in
         let env : Mapping → Sight = λ m. with_terms ids us m (lone_env ids vs m) in
         ap (total g) (plain_rows relations (filter_core a terms vs us condition) refl refl refl refl)
         ∙ total-map g (item_cells items) (filter (λ e. is_true (value_of condition e)) envs)

@@ -1,5 +1,5 @@
 -- A table with the terms and their numbers, and how a step joins it.
-use Rattle.std.specs.Prelude.{◌≡◌, ℕ, ℤ, ◌+◌, ◌/◌, ◌%◌, Bool, true, cond, List, [], ◌∷◌, map, Option, Some, None, pos, codes}
+use Rattle.std.specs.Prelude.{◌≡◌, ℕ, ℤ, ◌+◌, ◌/◌, ◌%◌, Bool, true, false, cond, if◌then◌else◌, List, [], ◌∷◌, map, Option, Some, None, pos, codes}
 use Rattle.bags.specs.Bag.{total}
 use Rattle.rdf_meaning.specs.Terms.{RdfTerm}
 use Rattle.rdf_value_meaning.specs.Values.{class_of, value_of}
@@ -14,8 +14,8 @@ use Rattle.sql_rows_meaning.specs.Tables.{Relation, cell_under}
 use Rattle.query_eval_meaning.specs.Mapping.{Mapping}
 use Rattle.sql_rows_meaning.specs.Values.{Sight}
 use Rattle.sql_rows_meaning.specs.Sources.{with_row}
-use Rattle.sql_gen_step_laws.specs.Carried.{Name, Ids}
-use Rattle.sql_gen_step_laws.specs.StepSelects.{has}
+use Rattle.sql_gen_step_laws.specs.Carried.{Name, one, Ids}
+use Rattle.sql_gen_step_laws.specs.StepSelects.{left_alias, cell_of, has}
 
 abbrev pub id_name : Name
 id_name = codes "id"
@@ -52,9 +52,9 @@ pub record HasTerms (ids : Ids) (known : RdfTerm → Bool) (t : Relation) : Type
   pub columns : t.columns ≡ term_columns
   pub own_row : (s : RdfTerm) → known s ≡ true → (h : List Cell → ℕ) → total (λ row. cond (has_number (ids s) row) (h row) 0) t.rows ≡ h (term_cells ids s)
 
--- a LEFT JOIN with the row whose number an expression gives
+-- a LEFT JOIN with the rows of a test
 abbrev pub term_join : Name → Name → SqlExpr → JoinTo
-term_join terms alias e = record { left = true; source = record { table = terms; alias = alias }; on = sql.Equal (sql.Name alias id_name) e }
+term_join terms alias test = record { left = true; source = record { table = terms; alias = alias }; on = test }
 
 -- the row of a variable's term; nulls where it is unbound
 abbrev pub term_row : Ids → Option RdfTerm → List Cell
@@ -65,9 +65,21 @@ term_row ids (Some t) = term_cells ids t
 unfoldable pub term_alias : ℕ → Name
 term_alias v = 116 ∷ (48 + v / 10) ∷ (48 + v % 10) ∷ []
 
--- one LEFT JOIN with the terms for each variable; f gives the cell of its number
+-- the row whose number an expression gives
+abbrev pub number_test : (ℕ → SqlExpr) → ℕ → SqlExpr
+number_test f u = sql.Equal (sql.Name (term_alias u) id_name) (f u)
+
+-- no row: never true, and still an equality of columns, by which a join is looked up
+abbrev pub no_test : ℕ → SqlExpr
+no_test u = sql.All (number_test (λ v. sql.Name left_alias one) u ∷ sql.Truth false ∷ [])
+
+-- the row of a variable's number, or none where the step has no column for the variable
+abbrev pub own_test : List ℕ → ℕ → SqlExpr
+own_test vs u = if has vs u then number_test (cell_of left_alias) u else no_test u
+
+-- one LEFT JOIN with the terms for each variable, by its test
 abbrev pub term_joins : Name → (ℕ → SqlExpr) → List ℕ → List JoinTo
-term_joins terms f us = map (λ u. term_join terms (term_alias u) (f u)) us
+term_joins terms test us = map (λ u. term_join terms (term_alias u) (test u)) us
 
 -- what the joins put in sight
 abbrev pub with_terms : Ids → List ℕ → Mapping → Sight → Sight

@@ -1,4 +1,4 @@
-use Rattle.sql_gen_last_laws.specs.LastRows.{last-answer}
+use Rattle.sql_gen_last_laws.proofs.LastRows.{last-answer}
 use Rattle.sql_gen_last_laws.proofs.last.last_rows.Goals as goal
 
 pub returns : goal.returns

@@ -1,0 +1,2 @@
+pub mod LastBinds
+pub mod Few

@@ -1,2 +1,0 @@
-pub mod LastColumns
-pub mod LastBinds

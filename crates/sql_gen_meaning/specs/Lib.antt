@@ -1,0 +1,2 @@
+pub mod Compilable
+pub mod RightScripts

@@ -1,0 +1,4 @@
+pub mod Apart
+pub mod StepNames
+pub mod Written
+pub mod WrittenStars

@@ -1,0 +1,4 @@
+pub mod Chained
+pub mod TwoOuts
+pub mod OneOut
+pub mod Made

@@ -1,7 +1,6 @@
 -- The variables of stars, one by one.
 use Rattle.std.specs.Prelude.{◌≡◌, ℕ, Bool, true, false, ◌||◌, ◌&&◌, List, [], ◌∷◌, refl}
 use Rattle.std.proofs.Common.{sym, ap, ap₂, ◌∙◌}
-use Rattle.query_meaning.specs.declared.pattern.Slot.{Slot}
 use Rattle.query_eval_meaning.specs.Leaf.{is_variable}
 use Rattle.query_eval_meaning.specs.Variables.{Variables}
 use Rattle.query_plan_meaning.specs.declared.star.Arm.{Arm}
@@ -73,6 +72,12 @@ adds_star before between body after s x h e = record {
 }
 
 pub ruleset star_laws = (adds_star)
+
+-- a star that is added to no variables
+pub has_star : (before after : ℕ) (s : Star) → ((v : ℕ) → members before v ≡ false) → Adds before (star_certain s) after → Has after (star_certain s)
+has_star before after s h a = record { same = λ v. a.same v ∙ ap (λ (u : Bool). u || star_certain s v) (h v) }
+
+pub ruleset alone_laws = (has_star)
 
 abbrev pub RestOfStars : ℕ → List Star → Variables → Type 0
 RestOfStars set stars vs = Rest star_certain stars_certain set stars vs

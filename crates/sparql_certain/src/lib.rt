@@ -9,4 +9,5 @@ mod trees;
 pub use leaf_vars::LeafVars;
 pub use patterns::{variables, with_pattern};
 pub use sparql_variables::VarSet;
+pub use stars::star_certain;
 pub use trees::certain;

@@ -52,6 +52,14 @@ fn with_star(set: &VarSet, star: &Star) -> VarSet
     entity.either(&of_body(&star.body))
 }
 
+/// The variables that every solution of a star binds: its entity's, and those of what is required of it.
+#[tactic(auto, using(crate::proofs::StarSets::alone_laws))]
+pub fn star_certain(star: &Star) -> VarSet
+    ensures { Has result (star_certain star.now) }
+{
+    with_star(&VarSet::empty(), star)
+}
+
 #[tactic(auto, using(crate::proofs::StarSets::stars_laws))]
 fn of_stars(stars: &[Star]) -> VarSet
     ensures { Has result (stars_certain stars.now) }

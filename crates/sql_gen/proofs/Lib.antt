@@ -1,0 +1,2 @@
+pub mod TreeOuts
+pub mod Compiled

@@ -1,0 +1,3 @@
+pub mod TreeLevels
+pub mod TreeNodes
+pub mod NamedArms

@@ -23,8 +23,9 @@ use Rattle.run_files_meaning.specs.Intake.{Contents, settled, Leads, IsTold}
 use Rattle.run_files_meaning.specs.Files.{judged_work}
 use Rattle.run_files_meaning.specs.Job.{Job, no_job, AsksBehind, AsksFor}
 use Rattle.run_files_meaning.proofs.Leads.{one_end, some_end}
-use Rattle.run_query_meaning.specs.QueryFile.{status_of, judged_query, QueryAsks, is_query, is_refused}
-use Rattle.run_query_meaning.specs.Answering.{Answering, answering, AnswerAsks, has_query, has_none, query_job}
+use Rattle.run_query_meaning.specs.QueryFile.{status_of, QueryAsks, is_query, is_refused, AsksWork, has_query, has_none}
+use Rattle.run_query_meaning.specs.Answering.{answering, query_job}
+use Rattle.run_show_meaning.specs.Showing.{showing, show_job}
 use Rattle.run_stats_meaning.specs.Counting.{Counting, stats_job}
 use Rattle.run_exec_meaning.specs.Running.{Running, judged_script, SqlAsks, reads_script, is_deep, breaks, ScriptAsks, has_tables, is_bad, exec_job}
 use Rattle.run_outcome_meaning.specs.Jobs.{job_of, job_asked}
@@ -69,7 +70,7 @@ abbrev Read : Type 0
 Read = Result AlgebraQuery Status
 
 query_asks_once : QueriesAreNotRefused → RefusalsAreUnique → (text : List ℕ) (o p : Read) → QueryAsks text o → QueryAsks text p → o ≡ p
-query_asks_once never one text o p (is_query q a) (is_query r b) = ap judged_query (b.only q a.is)
+query_asks_once never one text o p (is_query q a) (is_query r b) = ap Ok (b.only q a.is)
 query_asks_once never one text o p (is_query q a) (is_refused r b) = absurd (never text q r a.is b)
 query_asks_once never one text o p (is_refused r a) (is_query q b) = absurd (never text q r b.is a)
 query_asks_once never one text o p (is_refused r a) (is_refused s b) = ap (λ (x : QueryRefusal). let read : Read = Err (status_of x) in read) (one text r s a b)
@@ -89,23 +90,23 @@ same_status s t e = cc
 never_both : (q : AlgebraQuery) (s : Status) → read_as q ≡ not_read s → ⊥
 never_both q s e = cc
 
-answer_asks_once : QueriesAreNotRefused → RefusalsAreUnique → (changes : List Change) (text : List ℕ) (o p : Result Answering Status) → AnswerAsks changes text o → AnswerAsks changes text p → o ≡ p
-answer_asks_once never one changes text o p (has_query q a) (has_query r b) =
-    ap (λ (x : AlgebraQuery). judged_work changes (answering changes x)) (same_query q r (query_asks_once never one text (Ok q) (Ok r) a b))
-answer_asks_once never one changes text o p (has_query q a) (has_none s b) = absurd (never_both q s (query_asks_once never one text (Ok q) (Err s) a b))
-answer_asks_once never one changes text o p (has_none s a) (has_query q b) = absurd (never_both q s (query_asks_once never one text (Ok q) (Err s) b a))
-answer_asks_once never one changes text o p (has_none s a) (has_none t b) =
-    ap (λ (x : Status). let status : Result Answering Status = Err x in status) (same_status s t (query_asks_once never one text (Err s) (Err t) a b))
+work_asks_once : {W : Type 0} → QueriesAreNotRefused → RefusalsAreUnique → (changes : List Change) (text : List ℕ) (make : AlgebraQuery → W) (o p : Result W Status) → AsksWork changes text make o → AsksWork changes text make p → o ≡ p
+work_asks_once never one changes text make o p (has_query q a) (has_query r b) =
+    ap (λ (x : AlgebraQuery). judged_work changes (make x)) (same_query q r (query_asks_once never one text (Ok q) (Ok r) a b))
+work_asks_once never one changes text make o p (has_query q a) (has_none s b) = absurd (never_both q s (query_asks_once never one text (Ok q) (Err s) a b))
+work_asks_once never one changes text make o p (has_none s a) (has_query q b) = absurd (never_both q s (query_asks_once never one text (Ok q) (Err s) b a))
+work_asks_once {W} never one changes text make o p (has_none s a) (has_none t b) =
+    ap (λ (x : Status). let status : Result W Status = Err x in status) (same_status s t (query_asks_once never one text (Err s) (Err t) a b))
 
-answer_asks_something : NoTextIsNeither → (changes : List Change) (text : List ℕ) → ((o : Result Answering Status) → AnswerAsks changes text o → ⊥) → ⊥
-answer_asks_something each changes text none = each text by_query by_refusal
+work_asks_something : {W : Type 0} → NoTextIsNeither → (changes : List Change) (text : List ℕ) (make : AlgebraQuery → W) → ((o : Result W Status) → AsksWork changes text make o → ⊥) → ⊥
+work_asks_something each changes text make none = each text by_query by_refusal
   where
     asked : (r : Read) → QueryAsks text r → ⊥
-    asked (Ok q) a = none (judged_work changes (answering changes q)) (has_query q a)
+    asked (Ok q) a = none (judged_work changes (make q)) (has_query q a)
     asked (Err s) a = none (Err s) (has_none s a)
 
     by_query : (q : AlgebraQuery) → IsTheQuery text q → ⊥
-    by_query q a = asked (judged_query q) (is_query q a)
+    by_query q a = asked (Ok q) (is_query q a)
 
     by_refusal : (r : QueryRefusal) → QueryRefused text r → ⊥
     by_refusal r a = asked (Err (status_of r)) (is_refused r a)
@@ -157,20 +158,22 @@ none_something status = asks_something (no_job status) (λ input none. absurd in
 pub jobs_ask_once : QueriesAreNotRefused → RefusalsAreUnique → OneReading → NeverBoth → OneBadLine → JobsAskOnce
 jobs_ask_once none unique one never bad None = none_once Usage
 jobs_ask_once none unique one never bad (Some (Query options names name)) =
-    asks_once (query_job options names name) (λ files o p a b. answer_asks_once none unique files.changes files.text o p a b)
+    asks_once (query_job options names name) (λ files o p a b. work_asks_once none unique files.changes files.text (answering files.changes) o p a b)
 jobs_ask_once none unique one never bad (Some (Exec pieces name)) = asks_once (exec_job name) (λ text o p a b. script_asks_once one never bad text o p a b)
 jobs_ask_once none unique one never bad (Some (Stats options names)) = asks_once (stats_job options names) (λ input o p a b. a ∙ sym b)
-jobs_ask_once none unique one never bad (Some (Show options names name)) = none_once NotYet
+jobs_ask_once none unique one never bad (Some (Show options names name)) =
+    asks_once (show_job options names name) (λ files o p a b. work_asks_once none unique files.changes files.text (showing files.colours files.changes) o p a b)
 jobs_ask_once none unique one never bad (Some (Plan options names name)) = none_once NotYet
 jobs_ask_once none unique one never bad (Some (Drill options count seed)) = none_once NotYet
 
 pub jobs_ask_something : NoTextIsNeither → ReadOrBad → NoSqlTextIsNeither → JobsAskSomething
 jobs_ask_something each either sql None = none_something Usage
 jobs_ask_something each either sql (Some (Query options names name)) =
-    asks_something (query_job options names name) (λ files none. answer_asks_something each files.changes files.text none)
+    asks_something (query_job options names name) (λ files none. work_asks_something each files.changes files.text (answering files.changes) none)
 jobs_ask_something each either sql (Some (Exec pieces name)) = asks_something (exec_job name) (λ text none. script_asks_something either sql text none)
 jobs_ask_something each either sql (Some (Stats options names)) =
     asks_something (stats_job options names) (λ input none. none (judged_work input.changes input) refl)
-jobs_ask_something each either sql (Some (Show options names name)) = none_something NotYet
+jobs_ask_something each either sql (Some (Show options names name)) =
+    asks_something (show_job options names name) (λ files none. work_asks_something each files.changes files.text (showing files.colours files.changes) none)
 jobs_ask_something each either sql (Some (Plan options names name)) = none_something NotYet
 jobs_ask_something each either sql (Some (Drill options count seed)) = none_something NotYet

@@ -1,5 +1,5 @@
 -- Answering a query over the triples that are present.
-use Rattle.std.specs.Prelude.{◌≡◌, ℕ, List, [], map, Result, Ok, Err, slice_index_or}
+use Rattle.std.specs.Prelude.{◌≡◌, ℕ, List, [], map, Result, slice_index_or}
 use Rattle.rdf_meaning.specs.Terms.{RdfTriple}
 use Rattle.line_change_meaning.specs.declared.change.Change.{Change}
 use Rattle.line_change_meaning.specs.Present.{present}
@@ -8,9 +8,9 @@ use Rattle.query_eval_meaning.specs.AnswerText.{answer_text}
 use Rattle.query_eval_meaning.specs.Eval.{answer_of}
 use Rattle.run_meaning.specs.declared.status.Status.{Status}
 use Rattle.run_meaning.specs.declared.command.Options.{Options}
-use Rattle.run_files_meaning.specs.Files.{QueryFiles, query_read, judged_work}
+use Rattle.run_files_meaning.specs.Files.{QueryFiles, query_read}
 use Rattle.run_files_meaning.specs.Job.{Job}
-use Rattle.run_query_meaning.specs.QueryFile.{QueryAsks}
+use Rattle.run_query_meaning.specs.QueryFile.{AsksWork}
 
 -- answering the query over what is present after the changes
 pub record Answering : Type 0 where
@@ -21,9 +21,8 @@ abbrev pub answering : List Change → Query → Answering
 answering changes query = record { changes = changes; query = query }
 
 -- what the text of a query file asks for behind the changes
-pub data AnswerAsks (changes : List Change) (text : List ℕ) : Result Answering Status → Type 0 where
-  has_query : (query : Query) → QueryAsks text (Ok query) → AnswerAsks changes text (judged_work changes (answering changes query))
-  has_none : (status : Status) → QueryAsks text (Err status) → AnswerAsks changes text (Err status)
+abbrev pub AnswerAsks : List Change → List ℕ → Result Answering Status → Type 0
+AnswerAsks changes text = AsksWork changes text (answering changes)
 
 -- the names of the shown variables; the name of variable v is the one at place v
 abbrev pub shown_names : Query → List (List ℕ)

@@ -1,0 +1,2 @@
+//! Showing the tables and the script of a query: which texts fit.
+#![tactic(auto)]

@@ -1,6 +1,7 @@
 //! Steps of a store. They have no contracts, so that no proof carries what a store holds.
 
 use colouring_file::{ColourLine, read_colouring};
+use layout_text_laws::standing_tables_are_plain;
 use nt_lines::{Change, LineRefusal, read_changes};
 use pred_columns::ColumnRefusal;
 use rdf_layout::{ColourWay, LayoutChoice, Put, Store, StoreRefusal, Took};
@@ -133,7 +134,8 @@ pub(crate) fn store_of<R: Threads + Sync>(
 
 /// The tables of a store as text.
 pub(crate) fn tables_text(alloc: Global, store: &Store) -> Result<Vec<u8>, AllocError> {
-    // How many columns there are at most is told by a call.
+    // That the tables can be written, and how many columns there are at most, is told by calls.
+    standing_tables_are_plain();
     let facts = store.facts(alloc, &[])?;
     let _direct = facts.direct.count();
     let _reverse = facts.reverse.count();

@@ -19,6 +19,7 @@ use Rattle.run_files_meaning.specs.Job.{Job, no_job, AsksFor}
 use Rattle.run_files_meaning.proofs.Leads.{leads_on, leads_behind}
 use Rattle.run_files_meaning.proofs.Takes.{refused_map, leads_same, stops_later, stops_behind}
 use Rattle.run_query_meaning.specs.Answering.{Answering, AnswerAsks, FitsAnswer, query_job}
+use Rattle.run_show_meaning.specs.Showing.{Showing, ShowAsks, IsShown, show_job}
 use Rattle.run_stats_meaning.specs.Counting.{Counting, counting, stats_job}
 use Rattle.run_exec_meaning.specs.Running.{Running, ScriptAsks, ScriptText, exec_job}
 use Rattle.run_outcome_meaning.specs.Jobs.{job_of, job_asked}
@@ -73,18 +74,18 @@ no_command (Some command) contents e = cc
 
 -- the command isn't built yet
 abbrev pub IsUnbuilt : Command → Type 0
-IsUnbuilt (Show options names name) = Unit {0}
 IsUnbuilt (Plan options names name) = Unit {0}
 IsUnbuilt (Drill options count seed) = Unit {0}
 IsUnbuilt (Query options names name) = ⊥
+IsUnbuilt (Show options names name) = ⊥
 IsUnbuilt (Stats options names) = ⊥
 IsUnbuilt (Exec pieces name) = ⊥
 
 pub unbuilt : (command : Command) (contents : Contents) → IsUnbuilt command → AsksFor (job_of command) contents (Err NotYet)
-unbuilt (Show options names name) contents is = asked_at_once NotYet contents
 unbuilt (Plan options names name) contents is = asked_at_once NotYet contents
 unbuilt (Drill options count seed) contents is = asked_at_once NotYet contents
 unbuilt (Query options names name) contents is = absurd is
+unbuilt (Show options names name) contents is = absurd is
 unbuilt (Stats options names) contents is = absurd is
 unbuilt (Exec pieces name) contents is = absurd is
 
@@ -98,6 +99,15 @@ answer_makes items made options names name contents before after colours changes
     job_makes items made (query_job options names name) contents before after (query_files colours changes text) leads
     (subst (λ (t : List ℕ). IfOk made (λ x. (work : Answering) × AnswerAsks changes t (Ok work) × FitsAnswer work (items x))) same ok)
     (subst (λ (t : List ℕ). IfErr made (λ status. RefusedAs status (λ s. AnswerAsks changes t (Err s)))) same err)
+
+pub show_makes : {X : Type 0} (items : X → List ℕ) (made : Result X Status) (options : Options) (names : List (List ℕ)) (name : List ℕ) (contents : Contents) (before after : List ℕ → ℕ)
+    (colours : List ColourOf) (changes : List Change) (text given : List ℕ) → given ≡ text → Leads contents (query_read options names name) (gives (query_files colours changes text))
+    → IfOk made (λ x. (work : Showing) × ShowAsks colours changes given (Ok work) × IsShown options work (items x)) → IfErr made (λ status. RefusedAs status (λ s. ShowAsks colours changes given (Err s)))
+    → Makes items made (show_job options names name) contents before after
+show_makes items made options names name contents before after colours changes text given same leads ok err =
+    job_makes items made (show_job options names name) contents before after (query_files colours changes text) leads
+    (subst (λ (t : List ℕ). IfOk made (λ x. (work : Showing) × ShowAsks colours changes t (Ok work) × IsShown options work (items x))) same ok)
+    (subst (λ (t : List ℕ). IfErr made (λ status. RefusedAs status (λ s. ShowAsks colours changes t (Err s)))) same err)
 
 pub script_makes : {X : Type 0} (items : X → List ℕ) (made : Result X Status) (name : List ℕ) (contents : Contents) (before after : List ℕ → ℕ)
     (text given : List ℕ) → given ≡ text → Leads contents (text_read most_file which.File name) (gives text)

@@ -10,6 +10,7 @@ ghost use Rattle.run_command_laws.specs.Ranges.{AreInRange, IsInRange, IsWithin}
 ghost use Rattle.run_files_meaning.specs.Files.{judged_work};
 ghost use Rattle.run_files_meaning.specs.Refusal.{RefusedAs};
 ghost use Rattle.run_query_meaning.specs.Answering.{query_job};
+ghost use Rattle.run_show_meaning.specs.Showing.{show_job};
 ghost use Rattle.run_stats_meaning.specs.Counting.{counting, stats_job};
 ghost use Rattle.run_exec_meaning.specs.Running.{exec_job};
 ghost use Rattle.run_outcome_meaning.specs.Jobs.{job_of, job_asked};
@@ -26,6 +27,7 @@ use run_files::{read_colours, read_data, read_query_files, read_text};
 use run_meaning::{Command, MOST_FILE, Options, Status, Which};
 use run_outcome_laws::commands_ask_once;
 use run_query::query_text;
+use run_show::show_text;
 use run_stats::stats_text;
 use run_words::command_of;
 use std::alloc::Global;
@@ -33,18 +35,37 @@ use std::thread::Threads;
 use store_io::{Shelf, Sink};
 
 // The answer to a query. The options change no answer, but a colouring file is judged.
-fn answer<F: Shelf>(
+fn answer<R: Threads + Sync, F: Shelf>(
+    rt: &R,
     alloc: Global,
     options: &Options,
     data_names: &[Text],
     query_name: &str,
     shelf: &mut F,
 ) -> Result<Vec<u8>, Status>
-    requires { length data_names.now ≤ most_data_files }
+    requires in_range { AreInRange options.now }
+    requires few { length data_names.now ≤ most_data_files }
     ensures { Makes (λ text. text.items) result (query_job options.now data_names.now query_name.now) (F.content shelf.old) (F.faults shelf.old) (F.faults shelf.new) }
 {
     let files = read_query_files(alloc, options, data_names, query_name, shelf)?;
-    query_text(alloc, files.changes, &files.text)
+    query_text(rt, alloc, options, files.lines, files.changes, &files.text)
+}
+
+// The tables of the data files, and the script of a query over them.
+fn show<R: Threads + Sync, F: Shelf>(
+    rt: &R,
+    alloc: Global,
+    options: &Options,
+    data_names: &[Text],
+    query_name: &str,
+    shelf: &mut F,
+) -> Result<Vec<u8>, Status>
+    requires in_range { AreInRange options.now }
+    requires few { length data_names.now ≤ most_data_files }
+    ensures { Makes (λ text. text.items) result (show_job options.now data_names.now query_name.now) (F.content shelf.old) (F.faults shelf.old) (F.faults shelf.new) }
+{
+    let files = read_query_files(alloc, options, data_names, query_name, shelf)?;
+    show_text(rt, alloc, options, files.lines, files.changes, &files.text)
 }
 
 // The cells of the script of a file of tables and SQL.
@@ -115,10 +136,14 @@ fn perform<R: Threads + Sync, F: Shelf>(
             options,
             data,
             query,
-        } => answer(alloc, options, data.names(), query.as_str(), shelf),
+        } => answer(rt, alloc, options, data.names(), query.as_str(), shelf),
+        Command::Show {
+            options,
+            data,
+            query,
+        } => show(rt, alloc, options, data.names(), query.as_str(), shelf),
         Command::Exec { pieces, file } => run_script(rt, alloc, *pieces, file.as_str(), shelf),
         Command::Stats { options, data } => count_tables(rt, alloc, options, data.names(), shelf),
-        Command::Show { .. } => Err(Status::NotYet),
         Command::Plan { .. } => Err(Status::NotYet),
         Command::Drill { .. } => Err(Status::NotYet),
     }

@@ -1,2 +1,3 @@
-pub mod OnePattern
-pub mod Asks
+pub mod Names
+pub mod Present
+pub mod Scripts

@@ -1,8 +1,7 @@
-//! The text of a query file, judged and answered over the triples that are present.
+//! The text of the answer to the query of a file, from the tables of changes.
 #![tactic(auto)]
 
-mod forms;
-mod refusals;
+mod answer;
 mod work;
 
 pub use work::query_text;

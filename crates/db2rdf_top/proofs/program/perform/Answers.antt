@@ -2,9 +2,6 @@ use Rattle.std.proofs.Common.{sym, subst}
 use Rattle.db2rdf_top.proofs.Jobs.{IsUnbuilt, unbuilt}
 use Rattle.db2rdf_top.proofs.program.perform.Goals as goal
 
-pub returns-in-Show : goal.returns-in-Show
-returns-in-Show g c = unbuilt c.args.command.now (g.F.Shelf.content c.args.shelf.now) (subst IsUnbuilt (sym c.in-Show.is) tt)
-
 pub returns-in-Plan : goal.returns-in-Plan
 returns-in-Plan g c = unbuilt c.args.command.now (g.F.Shelf.content c.args.shelf.now) (subst IsUnbuilt (sym c.in-Plan.is) tt)
 

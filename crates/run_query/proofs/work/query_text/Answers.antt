@@ -1,16 +1,19 @@
-use Rattle.run_query.proofs.Asks.{none_given, text_refused_first, work_done, work_refused}
+use Rattle.run_query_file.proofs.Asks.{none_given, text_refused_first, work_done, work_refused}
+use Rattle.run_query_meaning.specs.Answering.{answering, FitsAnswer}
 use Rattle.run_query.proofs.work.query_text.Goals as goal
 
 pub returns-in_err-query-clause-ok : goal.returns-in_err-query-clause-ok
-returns-in_err-query-clause-ok c = none_given c.from_residual.result c.in_err-query.field-0.0 _ c.from_residual.ensures.1
+returns-in_err-query-clause-ok g c = none_given c.from_residual.result c.in_err-query.field-0.0 _ c.from_residual.ensures.1
 
 pub returns-in_err-query-clause-err : goal.returns-in_err-query-clause-err
-returns-in_err-query-clause-err c =
-    text_refused_first c.from_residual.result c.args.changes.items c.args.text.now c.in_err-query.field-0.0 c.from_residual.ensures.1 c.in_err-query.ensures.refused
+returns-in_err-query-clause-err g c =
+    text_refused_first c.from_residual.result c.args.changes.items c.args.text.now (answering c.args.changes.items) c.in_err-query.field-0.0 c.from_residual.ensures.1 c.in_err-query.ensures.refused
 
 pub returns-clause-ok : goal.returns-clause-ok
-returns-clause-ok c =
-    work_done (λ t. t.items) c.answer_read.result c.args.changes.items c.args.text.now c.in_ok-query.query c.in_ok-query.ensures.ok c.answer_read.ensures.ok c.answer_read.ensures.asked
+returns-clause-ok g c =
+    work_done (λ t. t.items) c.answer_query.result c.args.changes.items c.args.text.now (answering c.args.changes.items) FitsAnswer c.in_ok-query.query c.in_ok-query.ensures.query
+    c.answer_query.ensures.ok c.answer_query.ensures.judged
 
 pub returns-clause-err : goal.returns-clause-err
-returns-clause-err c = work_refused c.answer_read.result c.args.changes.items c.args.text.now c.in_ok-query.query c.in_ok-query.ensures.ok c.answer_read.ensures.refused
+returns-clause-err g c =
+    work_refused c.answer_query.result c.args.changes.items c.args.text.now (answering c.args.changes.items) c.in_ok-query.query c.in_ok-query.ensures.query c.answer_query.ensures.refused

@@ -1,6 +1,0 @@
-use Rattle.std.proofs.Common.{◌≡◌, take}
-use Rattle.query_eval_meaning.specs.Answer.{all_keys}
-use Rattle.query_answer_steps.proofs.sorting.all_keys.Given as goal
-
-abbrev pub invariant-loop-variable : goal.invariant-loop-variable
-invariant-loop-variable l = l.all.items ≡ all_keys l.keys (take l.variable-index l.shown)

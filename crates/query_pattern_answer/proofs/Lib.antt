@@ -1,4 +1,0 @@
-pub mod Tabs
-pub mod Rows
-pub mod Places
-pub mod Below

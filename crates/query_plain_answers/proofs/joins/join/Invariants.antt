@@ -1,8 +1,0 @@
-use Rattle.std.proofs.Common.{◌≡◌, ◌++◌, map, drop}
-use Rattle.query_eval_meaning.specs.Eval.{join}
-use Rattle.query_plain_answers.specs.Places.{place_at}
-use Rattle.query_plain_answers.proofs.joins.join.Given as goal
-
-abbrev pub invariant-loop-left : goal.invariant-loop-left
-invariant-loop-left l =
-    join (map place_at l.lefts) (map place_at l.rights) ≡ map place_at l.joined.items ++ join (map place_at (drop l.left-index l.lefts)) (map place_at l.rights)

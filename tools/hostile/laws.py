@@ -177,8 +177,8 @@ def renamed(some_tokens, names):
 def check_renamed(program, inputs, rng):
     """A query and itself with other names of variables, of one length, so that places stay."""
     some_tokens = inputs['tokens'] if 'tokens' in inputs else queries.tokens(inputs['query'])
-    old = sorted({token for token in some_tokens if re.fullmatch(r'\?\w+', token)})
-    names = {name: '?' + 'xyzuvwkl'[at] * (len(name) - 1) for at, name in enumerate(old)}
+    old = sorted({token[1:] for token in some_tokens if re.fullmatch(r'[?$]\w+', token)})
+    names = {sign + name: sign + 'xyzuvwkl'[at] * len(name) for at, name in enumerate(old) for sign in '?$'}
     style = inputs['style']
     first = answer(program, inputs, queries.text(some_tokens, random.Random(style)))
     other = answer(program, inputs, queries.text(renamed(some_tokens, names), random.Random(style)))

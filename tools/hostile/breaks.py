@@ -1,15 +1,16 @@
 """How a text is broken: cut, doubled, with bytes changed, or with tokens that don't belong."""
 
-QUERY_WORDS = ['SELECT', 'MINUS', 'BIND', 'VALUES', 'FILTER', 'OPTIONAL', 'UNION', 'NOT', 'EXISTS', 'GRAPH', 'GROUP', 'HAVING', 'LIMIT', 'ORDER', 'a',
-               '{', '}', '(', ')', '[', ']', '.', ';', ',', '*', '+', '-', '/', '|', '^', '^^', '!', '=', '<', '&&', '||', '?', '1', '-1', '1.5', '1e0',
-               '"x"', '"""x"""', '@en', '_:b', 'x:y', ':', '<u:p0>', '?a', '$b', 'true', 'count', 'regex', 'str', 'bound', 'IN', 'in', 'PREFIX', 'BASE',
-               'xyz', 'INSERT', 'ASK', 'CONSTRUCT', 'FROM', 'REDUCED', 'AS', 'DISTINCT', '~', '&', '"', "'", '\\', '%']
-SQL_WORDS = ['SELECT', 'WITH', 'AS', 'FROM', 'JOIN', 'LEFT', 'ON', 'WHERE', 'ORDER', 'BY', 'LIMIT', 'UNION', 'ALL', 'DISTINCT', 'CASE', 'WHEN', 'THEN',
-             'ELSE', 'END', 'AND', 'OR', 'NOT', 'IS', 'NULL', 'TRUE', 'COALESCE', 'CAST', 'INT', 'select', 'T', 'U', 'k1', 'c0', 'a', '(', ')', ',', '.',
-             '=', '<', '>', '-', '1', '-0', '01', '1x', "'x'", "'", '_', '*', '999999999999999999', '1000000000000000000',
-             '170141183460469231731687303715884105728', 'x' * 64, 'x' * 65]
-BYTES = [b'\x00', b'\xff', b'\xc3', b'\xed\xa0\x80', b'\xef\xbb\xbf', b'\r', b'\n', b'\t', b'"', b"'", b'\\', b'\\u0041', b'\\uD800', b'<', b'>', b'#',
-         b'.', b'@', b'-', b'_:', b' ', b'x', b'0', 'é'.encode(), b'{', b'}', b'(', b'^^']
+QUERY_WORDS = ['SELECT', 'MINUS', 'BIND', 'VALUES', 'FILTER', 'OPTIONAL', 'UNION', 'NOT', 'EXISTS', 'GRAPH', 'GROUP', 'HAVING', 'LIMIT',
+               'ORDER', 'a', '{', '}', '(', ')', '[', ']', '.', ';', ',', '*', '+', '-', '/', '|', '^', '^^', '!', '=', '<', '&&', '||',
+               '?', '1', '-1', '1.5', '1e0', '"x"', '"""x"""', '@en', '_:b', 'x:y', ':', '<u:p0>', '?a', '$b', 'true', 'count', 'regex',
+               'str', 'bound', 'IN', 'in', 'PREFIX', 'BASE', 'xyz', 'INSERT', 'ASK', 'CONSTRUCT', 'FROM', 'REDUCED', 'AS', 'DISTINCT',
+               '~', '&', '"', "'", '\\', '%']
+SQL_WORDS = ['SELECT', 'WITH', 'AS', 'FROM', 'JOIN', 'LEFT', 'ON', 'WHERE', 'ORDER', 'BY', 'LIMIT', 'UNION', 'ALL', 'DISTINCT', 'CASE',
+             'WHEN', 'THEN', 'ELSE', 'END', 'AND', 'OR', 'NOT', 'IS', 'NULL', 'TRUE', 'COALESCE', 'CAST', 'INT', 'select', 'T', 'U', 'k1',
+             'c0', 'a', '(', ')', ',', '.', '=', '<', '>', '-', '1', '-0', '01', '1x', "'x'", "'", '_', '*', '999999999999999999',
+             '1000000000000000000', '170141183460469231731687303715884105728', 'x' * 64, 'x' * 65]
+BYTES = [b'\x00', b'\xff', b'\xc3', b'\xed\xa0\x80', b'\xef\xbb\xbf', b'\r', b'\n', b'\t', b'"', b"'", b'\\', b'\\u0041', b'\\uD800',
+         b'<', b'>', b'#', b'.', b'@', b'-', b'_:', b' ', b'x', b'0', 'é'.encode(), b'{', b'}', b'(', b'^^']
 
 
 def bytes_of(rng, content):

@@ -13,13 +13,14 @@ TYPED = {
     'byte': ['1', '127', '128', '-129'],
     'unsignedLong': ['1', '18446744073709551615', '18446744073709551616', '-1'],
     'positiveInteger': ['1', '0'],
-    'dateTime': ['2024-01-01T00:00:00Z', '2024-01-01T00:00:00', '2024-01-01T01:00:00+01:00', '2024-02-30T00:00:00Z', '0001-01-01T00:00:00+14:00',
-                 '9999-12-31T23:59:59.999999999-14:00', '2023-12-31T24:00:00Z'],
+    'dateTime': ['2024-01-01T00:00:00Z', '2024-01-01T00:00:00', '2024-01-01T01:00:00+01:00', '2024-02-30T00:00:00Z',
+                 '0001-01-01T00:00:00+14:00', '9999-12-31T23:59:59.999999999-14:00', '2023-12-31T24:00:00Z'],
     'string': ['x', '1'],
     'double': ['1', '1e0'],
 }
 LITERALS = [f'"{text}"^^<{XSD}{name}>' for name, texts in TYPED.items() for text in texts] + [
-    '""', '"x"', '"y"', '"1"', '"caf\\u00E9"', '"café"', '"\\t\\n\\"\\\\"', '"x"@en', '"x"@EN-gb', '"x"@de', '""@en', '"1"^^<u:other>', '"\\U0001F600"']
+    '""', '"x"', '"y"', '"1"', '"caf\\u00E9"', '"café"', '"\\t\\n\\"\\\\"', '"x"@en', '"x"@EN-gb', '"x"@de', '""@en',
+    '"1"^^<u:other>', '"\\U0001F600"']
 OTHER_SPELLINGS = {'<u:s0>': '<u:\\u0073\\u0030>', '<u:p0>': '<\\U00000075:p0>', '"x"': f'"\\u0078"^^<{XSD}string>', '"x"@en': '"x"@EN'}
 
 
@@ -58,8 +59,10 @@ def line_of(mark, triple, rng=None):
 def lines(rng, most, deletions=True):
     """Up to so many lines that are in the grammar."""
     present, found = [], []
-    predicates = rng.sample(PREDICATES, rng.choice([1, 2, 3, 5, len(PREDICATES)]))
-    for _ in range(rng.randint(0, most)):
+    predicates = rng.sample(PREDICATES, rng.choice([1, 2, 2, 3, 3, 5, len(PREDICATES)]))
+    subjects = [subject(rng) for _ in range(rng.choice([1, 2, 3, 3, 5]))]
+    objects = subjects + [object_of(rng) for _ in range(rng.choice([1, 2, 3, 5, 20]))]
+    for _ in range(rng.choice([0, rng.randint(0, most), most, most, most])):
         draw = rng.random()
         if draw < 0.05:
             found.append(Line('', None, rng.choice([b'', b' ', b'# x', b'\t# <u:s0> <u:p0> <u:s1> .'])))
@@ -67,7 +70,7 @@ def lines(rng, most, deletions=True):
             gone = rng.choice(present) if present and rng.random() < 0.8 else (subject(rng), rng.choice(predicates), object_of(rng))
             found.append(line_of('D', gone, rng))
         else:
-            new = (subject(rng), rng.choice(predicates), object_of(rng))
+            new = (rng.choice(subjects), rng.choice(predicates), rng.choice(objects))
             present.append(new)
             found.append(line_of(rng.choice(['', '', 'A']), new, rng))
     return found
@@ -77,6 +80,11 @@ def files(rng, most):
     """One to three files, seldom sixteen."""
     count = rng.choice([1] * 8 + [2] * 4 + [3] * 2 + [16])
     return [lines(rng, max(1, most // count)) for _ in range(count)]
+
+
+def triples_of(some_files):
+    """All triples that lines of these files name, as they are spelled; one where there is none."""
+    return [line.triple for some_lines in some_files for line in some_lines if line.triple] or [(SUBJECTS[0], PREDICATES[0], SUBJECTS[1])]
 
 
 def text_of(some_lines, end=b'\n'):

@@ -1,7 +1,7 @@
 """What is tried: each kind makes inputs from a generator and checks them by laws, which compare runs with runs.
 
-Inputs are dicts of `files` (lists of data lines), `colouring` (lines), `query` (a tree), `text` (bytes), `tables` (lines), `script` (a tree),
-`style` (a seed for how things are written) and further choices. A check raises Broken.
+Inputs are dicts of `files` (lists of data lines), `colouring` (lines), `query` (a tree), `second` (a group), `condition`,
+`text` (bytes), `tables` (lines), `script` (a tree), `style` (a seed for how things are written) and further choices. A check raises Broken.
 """
 import random
 import re
@@ -11,7 +11,8 @@ from hostile import breaks, data, queries, scripts
 from hostile.program import holds, same
 
 LAYOUTS = [[], ['--columns', '1', '--reverse', '1'], ['--columns', '2', '--layout', 'hash', '--hashes', '1'],
-           ['--columns', '3', '--reverse', '2', '--layout', 'hash', '--hashes', '4'], ['--columns', '5', '--reverse', '3', '--colouring', 'c']]
+           ['--columns', '3', '--reverse', '2', '--layout', 'hash', '--hashes', '4'],
+           ['--columns', '5', '--reverse', '3', '--colouring', 'c']]
 PIECES = ['1', '2', '7']
 LETTERS = {'t': '\t', 'n': '\n', 'r': '\r', '"': '"', '\\': '\\'}
 
@@ -20,8 +21,16 @@ def store(rng, patterns=None, fewer=1):
     """Inputs with data, a colouring file and a query; few lines where the query has many patterns, so that answers stay small."""
     patterns = patterns or rng.choice([1, 1, 2, 2, 3, 3, 4, 5])
     most = {1: 60, 2: 40, 3: 18, 4: 10, 5: 6}[patterns] // fewer
-    return {'files': data.files(rng, most), 'colouring': data.colouring(rng, 5, 3), 'query': queries.query(rng, patterns), 'style': rng.getrandbits(32),
+    files = data.files(rng, most)
+    words = queries.around(rng, data.triples_of(files))
+    return {'files': files, 'colouring': data.colouring(rng, 5, 3), 'query': queries.query(rng, patterns, words),
+            'second': queries.group(rng, 2, words)[0], 'condition': queries.condition(rng, words), 'style': rng.getrandbits(32),
             'layout': rng.randrange(len(LAYOUTS))}
+
+
+def style_of(inputs):
+    """A generator for how texts are written; none, where they are written plainly."""
+    return random.Random(inputs['style']) if inputs['style'] else None
 
 
 def files_of(inputs, query=None):
@@ -30,7 +39,7 @@ def files_of(inputs, query=None):
     contents = {name: data.text_of(lines) for name, lines in zip(names, inputs['files'])}
     contents['c'] = b''.join(line + b'\n' for line in inputs['colouring'])
     if query is None:
-        query = inputs['text'] if 'text' in inputs else queries.of(inputs['query'], random.Random(inputs['style']))
+        query = inputs['text'] if 'text' in inputs else queries.of(inputs['query'], style_of(inputs))
     contents['q'] = query
     return contents, names
 
@@ -112,7 +121,7 @@ def check_counts(program, inputs, rng):
         other = counts(program, inputs, layout)
         holds(other.out.split(b'\n')[:2] == first.out.split(b'\n')[:2], 'layouts have the same triples and terms', first, other)
     every = answer(program, inputs, b'SELECT * { ?s ?p ?o }')
-    holds(first.out.startswith(b'triples %d\n' % len(rows_of(every))), 'as many triples as the query for all gives', first, len(rows_of(every)))
+    holds(first.out.startswith(b'triples %d\n' % len(rows_of(every))), 'as many triples as the query for all gives', first, every)
     shown = answer(program, inputs, b'SELECT * { }', command='show').out.split(b'\n-- sql\n')[0].decode()
     tables = {}
     for part in shown.split('\ntable\t')[1:]:
@@ -162,7 +171,8 @@ def check_added(program, inputs, rng):
     first = answer(program, inputs)
     files = [list(lines) for lines in inputs['files']]
     for number, iri in enumerate(data.FRESH):
-        new = rng.choice([(iri, rng.choice(data.PREDICATES), data.object_of(rng)), (rng.choice(data.SUBJECTS), rng.choice(data.PREDICATES), iri)])
+        verb = rng.choice(data.PREDICATES)
+        new = rng.choice([(iri, verb, data.object_of(rng)), (rng.choice(data.SUBJECTS), verb, iri)])
         lines = files[rng.randrange(len(files))]
         added = rng.randint(0, len(lines))
         lines.insert(added, data.line_of('A', new))
@@ -170,18 +180,14 @@ def check_added(program, inputs, rng):
     same('added and deleted', first, answer(program, changed(inputs, files=files)))
 
 
-def renamed(some_tokens, names):
-    return [names.get(token, token) for token in some_tokens]
-
-
 def check_renamed(program, inputs, rng):
     """A query and itself with other names of variables, of one length, so that places stay."""
     some_tokens = inputs['tokens'] if 'tokens' in inputs else queries.tokens(inputs['query'])
     old = sorted({token[1:] for token in some_tokens if re.fullmatch(r'[?$]\w+', token)})
-    names = {sign + name: sign + 'xyzuvwkl'[at] * len(name) for at, name in enumerate(old) for sign in '?$'}
-    style = inputs['style']
-    first = answer(program, inputs, queries.text(some_tokens, random.Random(style)))
-    other = answer(program, inputs, queries.text(renamed(some_tokens, names), random.Random(style)))
+    new = {name: 'xyzuvwklmnrstqgh'[at] * len(name) for at, name in enumerate(old)}
+    names = {mark + name: mark + new[name] for name in old for mark in '?$'}
+    first = answer(program, inputs, queries.text(some_tokens, style_of(inputs)))
+    other = answer(program, inputs, queries.text([names.get(token, token) for token in some_tokens], style_of(inputs)))
     holds((first.code, first.err) == (other.code, other.err), 'other names, refused', first, other)
     if first.code == 0:
         head = [names[name.decode()].encode() for name in first.out.split(b'\n')[0].split(b'\t') if name]
@@ -191,7 +197,7 @@ def check_renamed(program, inputs, rng):
 
 def plain(inputs, group, head=None, **others):
     """The inputs with a query of this group that shows all variables by name."""
-    head = head or queries.VARIABLES
+    head = head or queries.VARIABLES + ['?p']
     return changed(inputs, query={'head': head, 'distinct': False, 'group': group, 'keys': [], 'slice': [], **others})
 
 
@@ -224,7 +230,8 @@ def check_filters(program, inputs, rng):
     every = answer(program, plain(inputs, group))
     kept = answer(program, plain(inputs, group + [('filter', test)]))
     other = answer(program, plain(inputs, group + [('filter', ('not', test))]))
-    holds(not Counter(rows_of(kept)) + Counter(rows_of(other)) - Counter(rows_of(every)), 'a condition and its negation', every, kept, other)
+    more = Counter(rows_of(kept) + rows_of(other)) - Counter(rows_of(every))
+    holds(not more, 'a condition and its negation', every, kept, other)
     same('a true condition', every, answer(program, plain(inputs, group + [('filter', ('value', ('term', 'true')))])))
     same('a condition twice', kept, answer(program, plain(inputs, group + [('filter', test), ('filter', test)])))
     same('a condition or itself', kept, answer(program, plain(inputs, group + [('filter', ('or', [test, test]))])))
@@ -271,7 +278,8 @@ def check_refused_query(program, inputs, rng):
 def broken_data(rng):
     inputs = store(rng)
     at = rng.randrange(len(inputs['files']))
-    inputs['files'][at] = [data.Line('', None, breaks.bytes_of(rng, line.text)) if rng.random() < 0.15 else line for line in inputs['files'][at]]
+    inputs['files'][at] = [data.Line('', None, breaks.bytes_of(rng, line.text)) if rng.random() < 0.15 else line
+                           for line in inputs['files'][at]]
     if rng.random() < 0.1:
         inputs['files'][at].append(data.Line('', None, b'#' + b'x' * rng.choice([65534, 65535, 65536])))
     return inputs
@@ -340,16 +348,18 @@ def check_scripts(program, inputs, rng):
         parts = [cells(program, changed(inputs, script={**script, 'last': [core]})) for core in last]
         holds(rows_of(first) == [row for part in parts for row in rows_of(part)], 'UNION ALL appends', first, parts)
     names = [name for _, name in last[0]['items']]
-    outer = {'distinct': False, 'items': [(['o', '.', name], name) for name in names], 'sources': [(False, 'whole', 'o', None)], 'where': None,
-             'keys': [], 'limit': None, 'offset': None}
-    same('a step has the rows of its body', first, cells(program, changed(inputs, script={'steps': script['steps'] + [('whole', last)], 'last': [outer]})))
+    outer = {'distinct': False, 'items': [(['o', '.', name], name) for name in names], 'sources': [(False, 'whole', 'o', None)],
+             'where': None, 'keys': [], 'limit': None, 'offset': None}
+    wrapped = {'steps': script['steps'] + [('whole', last)], 'last': [outer]}
+    same('a step has the rows of its body', first, cells(program, changed(inputs, script=wrapped)))
     if len(last) == 1:
         def ended(**others):
             return rows_of(cells(program, changed(inputs, script={**script, 'last': [{**last[0], **others}]})))
         whole = ended(distinct=False, limit=None, offset=None)
         for distinct, rows in ((False, whole), (True, list(dict.fromkeys(whole)))):
             skip, most = rng.randint(0, 3), rng.randint(0, 4)
-            holds(ended(distinct=distinct, limit=most, offset=skip) == rows[skip:skip + most], 'LIMIT, OFFSET and DISTINCT of a script', whole, skip, most)
+            cut = ended(distinct=distinct, limit=most, offset=skip)
+            holds(cut == rows[skip:skip + most], 'LIMIT, OFFSET and DISTINCT of a script', whole, skip, most, cut)
 
 
 def check_refused_sql(program, inputs, rng):
@@ -375,7 +385,8 @@ def check_refused_tables(program, inputs, rng):
         cut = cut_behind(content, first.place())
         same('cut behind the bad line of tables', first, program.run(['exec', 'f'], {'f': cut}))
         if cut.endswith(b'\n') and cut.count(b'\n') == first.place():
-            same('cut behind the bad line of tables', first, program.run(['exec', 'f'], {'f': cut + rng.choice([b'x', b'-- sql\n', b'\xff'])}))
+            longer = cut + rng.choice([b'x', b'-- sql\n', b'\xff'])
+            same('cut behind the bad line of tables', first, program.run(['exec', 'f'], {'f': longer}))
 
 
 def check_limits(program, inputs, rng):
@@ -410,8 +421,8 @@ def limit_inputs(rng):
             return 'SELECT ' + ' '.join(f'?v{number}' for number in range(count)) + f' {{ ?v0 {p} ?v1 }}'
         front = f'SELECT * {{ ?a {p} ?b }}'
         return front + ' ' * (count - len(front))
-    name, most = rng.choice([('patterns', 48), ('groups', 24), ('blocks', 512), ('depth', 48), ('keys', 64), ('digits', 18), ('variables', 64),
-                             ('query', 65536)])
+    name, most = rng.choice([('patterns', 48), ('groups', 24), ('blocks', 512), ('depth', 48), ('keys', 64), ('digits', 18),
+                             ('variables', 64), ('query', 65536)])
     return changed(inputs, limit=(name, with_count(most, name).encode(), with_count(most + 1, name).encode()))
 
 
@@ -442,7 +453,8 @@ def check_words(program, inputs, rng):
 
 def word_inputs(rng):
     inputs = store(rng)
-    numbers = ['0', '1', '8', '32', '33', '08', '-1', '+1', '64', '65', '4', '5', 'x', '', '18446744073709551617', '1000', '100000', '100001']
+    numbers = ['0', '1', '8', '32', '33', '08', '-1', '+1', '64', '65', '4', '5', 'x', '', '18446744073709551617', '1000', '100000',
+               '100001']
     words = [rng.choice(['query', 'show', 'stats', 'exec', 'plan', 'drill', 'Query', '', '--columns', 'update'])]
     for _ in range(rng.choice([0, 0, 1, 1, 2, 3])):
         words += [rng.choice(['--columns', '--reverse', '--hashes', '--pieces', '--layout', '--colouring', '--other', '--']),
@@ -465,7 +477,8 @@ def check_outside(program, inputs, rng):
     for gone in (['c'] if '--colouring' in options else []) + names[:1] + ['q']:
         left = {name: content for name, content in contents.items() if name != gone}
         run = program.run(words, left)
-        holds(run.code in (3, 5, 6, 10) and (run.code != 6 or run.err == b'db2rdf: cannot read %s\n' % gone.encode()), 'a file that is not there', run)
+        told = run.err == b'db2rdf: cannot read %s\n' % gone.encode()
+        holds(run.code in (3, 5, 6, 10) and (told or run.code != 6), 'a file that is not there', run)
     folder = program.run(['stats', '/'], {})
     holds(folder.err == b'db2rdf: cannot read /\n', 'a folder is no file', folder)
     both = changed(inputs, files=[inputs['files'][0]])
@@ -536,9 +549,9 @@ KINDS = {
     'added and deleted': (4, store, check_added),
     'other names': (3, store, check_renamed),
     'other names, broken': (3, broken_names, check_renamed),
-    'unions': (4, lambda rng: changed(store(rng, 3), second=queries.group(rng, 2, queries.VARIABLES)[0]), check_unions),
+    'unions': (4, lambda rng: store(rng, 3), check_unions),
     'groups': (4, store, check_groups),
-    'filters': (5, lambda rng: changed(store(rng, rng.choice([1, 2, 3])), condition=queries.condition(rng, queries.VARIABLES[:3])), check_filters),
+    'filters': (5, lambda rng: store(rng, rng.choice([1, 2, 3])), check_filters),
     'modifiers': (3, store, check_modifiers),
     'scripts': (6, sql_inputs, check_scripts),
     'broken queries': (10, broken_query, check_refused_query),

@@ -84,7 +84,8 @@ class Program:
             out = nowhere if full == 'out' else subprocess.PIPE
             err = nowhere if full == 'err' else subprocess.PIPE
             try:
-                done = subprocess.run([self.path, *words], stdin=subprocess.DEVNULL, stdout=out, stderr=err, timeout=SECONDS, close_fds=False)
+                done = subprocess.run([self.path, *words], stdin=subprocess.DEVNULL, stdout=out, stderr=err, timeout=SECONDS,
+                                      close_fds=False)
             except subprocess.TimeoutExpired:
                 raise Broken('each run ends', f'{words} ran for more than {SECONDS} s') from None
         self.runs += 1

@@ -1,9 +1,11 @@
 """Queries of the fragment (docs/query-language.md) that a seed gives, as trees; their tokens, and texts of these tokens.
 
 A query is a dict: `head` (a list of variables, or none for `*`), `distinct`, `group`, `keys`, `slice`. A group is a list of elements:
-('triples', [(s, p, o), ..]), ('optional', group), ('unions', [group, ..]), ('filter', condition). A condition is a tuple with its kind first.
+('triples', [(s, p, o), ..]), ('optional', group), ('unions', [group, ..]), ('filter', condition). A condition is a
+tuple with its kind first.
 """
 import re
+from typing import NamedTuple
 
 from hostile import data
 
@@ -12,84 +14,109 @@ NUMBERS = ['0', '1', '01', '-1', '+1', '1.0', '.5', 'true', 'false', "'x'", "'y'
 OPERATORS = ['=', '!=', '<', '>', '<=', '>=']
 
 
-def term(rng, place, variables):
+class Around(NamedTuple):
+    """What a query is made of: variables of subjects and objects, those of predicates, and triples whose terms stand in it."""
+    variables: list
+    verbs: list
+    triples: list
+
+    def any_variable(self, rng):
+        return rng.choice(self.variables * 3 + self.verbs)
+
+
+def around(rng, triples):
+    return Around(VARIABLES[:rng.choice([1, 2, 3, 3, 4, 5])], ['?p'] if rng.random() < 0.9 else ['?a'], triples)
+
+
+def constant_of(rng, triples, place):
+    """A term that stands at this place of some triple; blank nodes can't stand in a query."""
+    found = rng.choice(triples)[place]
+    return rng.choice(data.SUBJECTS) if found.startswith('_:') else found
+
+
+def pattern(rng, words, subject=None):
+    if subject is None:
+        subject = rng.choice(words.variables) if rng.random() < 0.88 else constant_of(rng, words.triples, 0)
+    verb = rng.choice(words.verbs) if rng.random() < 0.15 else constant_of(rng, words.triples, 1)
+    if rng.random() < 0.06:
+        verb = rng.choice(data.PREDICATES)
     draw = rng.random()
-    if place == 'p':
-        return rng.choice(variables) if draw < 0.15 else rng.choice(data.PREDICATES[:5] if draw < 0.8 else data.PREDICATES)
-    if draw < 0.75:
-        return rng.choice(variables)
-    return rng.choice(data.SUBJECTS[:3]) if place == 's' or draw < 0.9 else constant(rng)
+    others = [name for name in words.variables if name != subject] if rng.random() < 0.9 else words.variables
+    if draw < 0.85:
+        return subject, verb, rng.choice(others or words.variables)
+    return subject, verb, constant_of(rng, words.triples, 2) if draw < 0.95 else constant(rng, words.triples)
 
 
-def constant(rng):
+def constant(rng, triples):
     draw = rng.random()
-    return data.literal(rng) if draw < 0.6 else rng.choice(NUMBERS) if draw < 0.85 else rng.choice(data.SUBJECTS + data.PREDICATES)
+    if draw < 0.4:
+        return constant_of(rng, triples, 2)
+    return data.literal(rng) if draw < 0.7 else rng.choice(NUMBERS) if draw < 0.9 else rng.choice(data.SUBJECTS + data.PREDICATES)
 
 
-def value(rng, variables, depth=2):
+def value(rng, words, depth=2):
     if depth and rng.random() < 0.25:
-        return ('fun', rng.choice(['str', 'lang', 'datatype']), value(rng, variables, depth - 1))
-    return ('term', rng.choice(variables) if rng.random() < 0.65 else constant(rng))
+        return ('fun', rng.choice(['str', 'lang', 'datatype']), value(rng, words, depth - 1))
+    return ('term', words.any_variable(rng) if rng.random() < 0.65 else constant(rng, words.triples))
 
 
-def condition(rng, variables, depth=3):
+def condition(rng, words, depth=3):
     draw = rng.random()
     if depth and draw < 0.35:
-        parts = [condition(rng, variables, depth - 1) for _ in range(rng.randint(2, 3))]
-        return (rng.choice(['and', 'or']), parts)
+        parts = [condition(rng, words, depth - 1) for _ in range(rng.randint(2, 3))]
+        return (rng.choice(['and', 'or', 'or']), parts)
     if depth and draw < 0.5:
-        return ('not', condition(rng, variables, depth - 1))
+        return ('not', condition(rng, words, depth - 1))
     if draw < 0.72:
-        return ('compare', rng.choice(OPERATORS), value(rng, variables), value(rng, variables))
+        return ('compare', rng.choice(OPERATORS), value(rng, words), value(rng, words))
     if draw < 0.8:
-        return ('in', rng.random() < 0.5, value(rng, variables), [value(rng, variables) for _ in range(rng.randint(0, 3))])
+        return ('in', rng.random() < 0.5, value(rng, words), [value(rng, words) for _ in range(rng.randint(0, 3))])
     if draw < 0.87:
-        return ('bound', rng.choice(variables))
+        return ('bound', words.any_variable(rng))
     if draw < 0.95:
         name = rng.choice(['isIRI', 'isURI', 'isBlank', 'isLiteral', 'sameTerm'])
-        return ('test', name, [value(rng, variables) for _ in range(2 if name == 'sameTerm' else 1)])
-    return ('value', value(rng, variables))
+        return ('test', name, [value(rng, words) for _ in range(2 if name == 'sameTerm' else 1)])
+    return ('value', value(rng, words))
 
 
-def group(rng, patterns, variables, depth=2):
-    """A group with at most so many patterns, which is told too."""
+def group(rng, patterns, words, depth=2):
+    """A group with at most so many patterns, and how many it has."""
     elements, used = [], 0
-    for _ in range(rng.choice([1, 1, 2, 2, 3])):
+    for number in range(rng.choice([1, 2, 2, 3])):
         left = patterns - used
         draw = rng.random()
-        if draw < 0.18:
-            elements.append(('filter', condition(rng, variables)))
-        elif draw < 0.4 and depth and left:
-            inner, count = group(rng, max(1, left // 2), variables, depth - 1)
+        if number == 0 and draw < 0.7 and left:
+            draw = 1
+        if draw < 0.15:
+            elements.append(('filter', condition(rng, words)))
+        elif draw < 0.5 and depth and left:
+            inner, count = group(rng, max(1, left // 2), words, depth - 1)
             elements.append(('optional', inner))
             used += count
-        elif draw < 0.6 and depth and left:
+        elif draw < 0.75 and depth and left:
             members = []
             for _ in range(rng.choice([1, 2, 2, 3])):
-                inner, count = group(rng, max(0, (patterns - used) // 2), variables, depth - 1)
+                inner, count = group(rng, max(0, (patterns - used) // 2), words, depth - 1)
                 members.append(inner)
                 used += count
             elements.append(('unions', members))
         elif left:
             count = rng.randint(1, min(3, left))
-            first = term(rng, 's', variables)
-            star = rng.random() < 0.5
-            elements.append(('triples', [(first if star else term(rng, 's', variables), term(rng, 'p', variables), term(rng, 'o', variables))
-                                         for _ in range(count)]))
+            first = rng.choice(words.variables) if rng.random() < 0.5 else None
+            elements.append(('triples', [pattern(rng, words, first) for _ in range(count)]))
             used += count
     return elements, used
 
 
-def query(rng, patterns):
-    variables = VARIABLES[:rng.randint(1, 5)]
-    body, _ = group(rng, patterns, variables)
+def query(rng, patterns, words):
+    body, _ = group(rng, patterns, words)
     head = None
     if rng.random() < 0.6:
-        head = [rng.choice(variables + ['?none']) for _ in range(rng.randint(1, 4))]
-    keys = [(rng.choice(variables), rng.choice(['', 'ASC', 'DESC'])) for _ in range(rng.choice([0, 0, 0, 1, 2]))]
+        head = [words.any_variable(rng) if rng.random() < 0.95 else '?none' for _ in range(rng.randint(1, 4))]
+    keys = [(words.any_variable(rng), rng.choice(['', 'ASC', 'DESC'])) for _ in range(rng.choice([0, 0, 0, 1, 2]))]
     cut = []
-    if rng.random() < 0.25:
-        cut = [('LIMIT', rng.randint(0, 6)), ('OFFSET', rng.randint(0, 4))][rng.choice([0, 0, 1]):rng.choice([1, 2, 2])]
+    if rng.random() < 0.2:
+        cut = [('LIMIT', rng.randint(0, 12)), ('OFFSET', rng.randint(0, 4))][rng.choice([0, 0, 1]):rng.choice([1, 2, 2])]
     return {'head': head, 'distinct': rng.random() < 0.25, 'group': body, 'keys': keys, 'slice': cut}
 
 
@@ -197,8 +224,8 @@ def variables_of(elements, into=None):
     return into
 
 
-BASE = 'A-Za-z\u00C0-\u00D6\u00D8-\u00F6\u00F8-\u02FF\u0370-\u037D\u037F-\u1FFF\u200C-\u200D\u2070-\u218F\u2C00-\u2FEF\u3001-\uD7FF\uF900-\uFDCF' \
-       '\uFDF0-\uFFFD\U00010000-\U000EFFFF'
+BASE = 'A-Za-z\u00C0-\u00D6\u00D8-\u00F6\u00F8-\u02FF\u0370-\u037D\u037F-\u1FFF\u200C-\u200D\u2070-\u218F\u2C00-\u2FEF\u3001-\uD7FF' \
+       '\uF900-\uFDCF\uFDF0-\uFFFD\U00010000-\U000EFFFF'
 LATER = '\u00B7\u0300-\u036F\u203F-\u2040'
 LETTER = rf'[{BASE}_]'
 PART = rf'[{BASE}_\-0-9{LATER}]'

@@ -1,7 +1,8 @@
 """Tables as text (docs/table-text.md) and scripts of the SQL dialect (docs/sql-dialect.md) that a seed gives.
 
 A script is a dict: `steps` (a list of a name and a body) and `last` (a body). A body is a list of cores; a core is a dict of `distinct`,
-`items` (expression and name), `sources` (joins; the first has none), `where`, `keys`, `limit` and `offset`. An expression is a list of tokens.
+`items` (expression and name), `sources` (joins; the first has none), `where`, `keys`, `limit` and `offset`. An
+expression is a list of tokens.
 """
 import re
 
@@ -10,15 +11,19 @@ TEXTS = ['""', '"x"', '"y"', '"\\t\\n"', '"é"', '"\\"\\\\"']
 INTS = ['0', '1', '2', '-1', '170141183460469231731687303715884105727', '-170141183460469231731687303715884105728']
 
 
+def cell(rng, kind):
+    if rng.random() < 0.2:
+        return '.'
+    return rng.choice(TEXTS if kind == 'text' else INTS[:3] if rng.random() < 0.8 else INTS)
+
+
 def tables(rng):
     """The lines of the tables, without the line that ends them."""
     found = [b'tables 2']
     for name, columns in TABLES.items():
         found.append('\t'.join(['table', name] + [f'{column}:{kind}' for column, kind in columns]).encode())
         for _ in range(rng.choice([0, 1, 3, 5])):
-            cells = ['.' if rng.random() < 0.2 else rng.choice(INTS[:3] if kind == 'int' and rng.random() < 0.8 else INTS if kind == 'int' else TEXTS)
-                     for _, kind in columns]
-            found.append('\t'.join(cells).encode())
+            found.append('\t'.join(cell(rng, kind) for _, kind in columns).encode())
     return found
 
 
@@ -70,7 +75,8 @@ def core(rng, kinds, known, numbers, ending):
             'items': [(expression(rng, kind, scope), f'c{at}') for at, kind in enumerate(kinds)],
             'where': expression(rng, 'truth', scope) if rng.random() < 0.4 else None}
     if ending:
-        made['keys'] = [(expression(rng, rng.choice(['int', 'text', 'truth']), scope), rng.random() < 0.5) for _ in range(rng.choice([0, 1, 2]))]
+        made['keys'] = [(expression(rng, rng.choice(['int', 'text', 'truth']), scope), rng.random() < 0.5)
+                        for _ in range(rng.choice([0, 1, 2]))]
         made['limit'] = rng.randint(0, 5) if rng.random() < 0.3 else None
         made['offset'] = rng.randint(0, 3) if rng.random() < 0.3 else None
     return made

@@ -81,6 +81,8 @@ def script_trees(script):
 
 def inputs_of(inputs):
     """Inputs of which one thing is smaller."""
+    if inputs.get('style'):
+        yield {**inputs, 'style': 0}
     for at, lines in enumerate(inputs.get('files', [])):
         if len(inputs['files']) > 1:
             yield {**inputs, 'files': inputs['files'][:at] + inputs['files'][at + 1:]}
